@@ -1,0 +1,4 @@
+pub mod Products
+pub mod Rounding
+pub mod Squares
+pub mod Signs

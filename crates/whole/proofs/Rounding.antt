@@ -1,0 +1,30 @@
+-- The law of `nearest`. Nothing else opens its definition, so that the decision for halves is proved here alone.
+use mathlib.Core.Path.{_≡_, refl, ap}
+use mathlib.Core.Bool.{Bool, true, false, cond}
+use Prim.Native.Nat.{ℕ, _+_, _*_, _/_, _%_, _≤_, _<_}
+use native.Mathlib.Nat.{div-add-mod', mod-lt, mul-add, mul-comm}
+use native.Mathlib.Omega.{arith}
+use borrow.Author.Tests.{leb-true, leb-false, ne-eqb}
+use lib.Dec.{leb}
+use Rattle.whole.specs.Nearest.{carry, nearest, Near}
+
+-- what is added to the floor is nearest to what is left over
+carry-near : (r d : ℕ) → r < d → Near r d (carry r d)
+unfolding carry
+carry-near r d h = go (leb d (2 * r)) refl
+  where
+    go : (b : Bool) → leb d (2 * r) ≡ b → Near r d (cond b 1 0)
+    go true e = let k : d ≤ 2 * r = leb-true d (2 * r) e in record { hi = omega arith; lo = omega arith }
+    go false e = let k : 2 * r < d = leb-false d (2 * r) e in record { hi = omega arith; lo = omega arith }
+
+pub nearest-is : (n d : ℕ) → 0 < d → nearest n d ≡ n / d + carry (n % d) d
+unfolding nearest
+nearest-is n d h = rw (ne-eqb d 0 (λ e. omega arith))
+
+pub near : (n d : ℕ) → 0 < d → Near n d (nearest n d)
+near n d h =
+    let c = carry-near (n % d) d (mod-lt n h) in
+    let e = div-add-mod' n d in
+    let p = mul-comm d (n / d) in
+    let s = mul-add d (n / d) (carry (n % d) d) in
+    rw (nearest-is n d h) (record { hi = omega arith; lo = omega arith })

@@ -1,0 +1,80 @@
+// Whole numbers: rounding to the nearest, the floor of a square root, and a signed number as its sign and its size.
+ghost use mathlib.Core.Path.{_≡_};
+ghost use Rattle.whole.specs.Nearest.{nearest as nearestOf};
+ghost use Rattle.whole.specs.Root.{root as rootOf};
+ghost use Rattle.whole.specs.Signed.{splitOf, joinOf, plus as plusOf, minus as minusOf};
+
+// The whole number nearest to n / d.
+pub fn nearest(n: u64, d: u64) -> u64
+    ensures { λ r. ⌜ r ≡ nearestOf n d ⌝ }
+{
+    if d == 0 {
+        return 0;
+    }
+    let q = n / d;
+    let r = n % d;
+    if d - r <= r { q + 1 } else { q }
+}
+
+// The floor of the square root of n, a binary digit a turn, the highest first.
+pub fn root(n: u64) -> u64
+    ensures { λ r. ⌜ r ≡ rootOf n ⌝ }
+{
+    let mut r: u64 = 0;
+    let mut k: u32 = 32;
+    while 0 < k {
+        k -= 1;
+        let next = r + (1 << k);
+        if next * next <= n {
+            r = next;
+        }
+    }
+    r
+}
+
+// A signed number as its sign and its size. 0 may have either sign.
+pub struct Signed {
+    pub negative: bool,
+    pub size: u32,
+}
+
+impl Signed {
+    pub fn split(z: i32) -> Signed
+        ensures { λ r. ⌜ r ≡ splitOf z ⌝ }
+    {
+        if z < 0 {
+            Signed {
+                negative: true,
+                size: (-1 - z) as u32 + 1,
+            }
+        } else {
+            Signed {
+                negative: false,
+                size: z as u32,
+            }
+        }
+    }
+
+    pub fn join(self) -> i64
+        ensures { λ r. ⌜ r ≡ joinOf self ⌝ }
+    {
+        if self.negative {
+            0 - (self.size as i64)
+        } else {
+            self.size as i64
+        }
+    }
+
+    // The positive and the negative part: the number is the one less the other, and one of them is 0.
+    pub fn plus(self) -> u64
+        ensures { λ r. ⌜ r ≡ plusOf (joinOf self) ⌝ }
+    {
+        if self.negative { 0 } else { self.size as u64 }
+    }
+
+    pub fn minus(self) -> u64
+        ensures { λ r. ⌜ r ≡ minusOf (joinOf self) ⌝ }
+    {
+        if self.negative { self.size as u64 } else { 0 }
+    }
+}
