@@ -18,6 +18,10 @@ pub join-split : (z : ℤ) → joinOf (splitOf z) ≡ z
 join-split (pos n) = refl
 join-split (negsuc n) = refl
 
+pub split-size : (z : ℤ) → splitOf z .size ≡ natAbs z
+split-size (pos n) = refl
+split-size (negsuc n) = refl
+
 -- what a number's parts are
 pub record Parts (z : ℤ) : Type 0 where
   pub one : min (plus z) (minus z) ≡ 0

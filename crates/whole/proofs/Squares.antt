@@ -34,7 +34,7 @@ step n r a =
     let e : 2 * r * (2 * r) ≡ 4 * (r * r) = mul-mul-mul-comm 2 r 2 r in
     let d : suc (suc (2 * r)) ≡ 2 * suc r = omega arith in
     let f : suc (suc (2 * r)) * suc (suc (2 * r)) ≡ 4 * (suc r * suc r) =
-        ap (λ (x : ℕ). x * x) d ∙ mul-mul-mul-comm 2 (suc r) 2 (suc r) in
+    ap (λ (x : ℕ). x * x) d ∙ mul-mul-mul-comm 2 (suc r) 2 (suc r) in
     (omega arith, omega arith)
 
 pick : (n r : ℕ) (b : Bool) → (T b → suc r * suc r ≤ n) → (T (not b) → n < suc r * suc r) → r * r ≤ n → n < suc (suc r) * suc (suc r) → IsRoot n (cond b (suc r) r)

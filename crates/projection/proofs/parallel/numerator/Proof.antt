@@ -1,0 +1,36 @@
+-- `projection::parallel::numerator` meets its contract.
+use mathlib.Core.Path.{_∙_}
+use native.Mathlib.Omega.{arith}
+use borrow.Author.Needs.{needs}
+use Rattle.projection.specs.Parallel.{numerator}
+use Rattle.projection.proofs.Rows.{column}
+use Rattle.projection.proofs.Widths.{root-small, numerator-whole}
+use Rattle.projection.proofs.parallel.numerator.Statement.{statement}
+use Rattle.projection.proofs.parallel.numerator.Tie as tie
+
+cast-combined : tie.Need-cast-combined
+cast-combined c = search needs
+
+root-at-requires : tie.Need-root-at-requires
+root-at-requires c κs = search needs
+
+combined-requires : tie.Need-combined-requires
+combined-requires c κs =
+    let s = c .before .before .before in
+    rw (column (s .args .row .a) (s .pre .columns .a-small), column (s .args .row .b) (s .pre .columns .b-small), c .before .before .root-at .ensures)
+    (record {
+      x-small = s .pre .columns .a-small;
+      y-small = s .pre .columns .b-small;
+      u-small = omega arith;
+      v-small = omega (arith, root-small (s .args .row) (s .args .p) (s .pre));
+      whole = numerator-whole (s .args .row) (s .args .p) (s .pre);
+    })
+
+returns : tie.Need-returns
+unfolding numerator
+returns c =
+    let s = c .before .before .before .before in
+    c .combined .ensures ∙ rw (column (s .args .row .a) (s .pre .columns .a-small), column (s .args .row .b) (s .pre .columns .b-small), c .before .before .before .root-at .ensures)
+
+pub numerator-spec : {M : Type 1} → statement M
+numerator-spec = tie.close (tie.spec cast-combined root-at-requires combined-requires returns)

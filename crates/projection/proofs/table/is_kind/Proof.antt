@@ -1,0 +1,18 @@
+-- `projection::table::is_kind` meets its contract.
+use native.Mathlib.Omega.{arith}
+use borrow.Author.Tests.{le-leb, lt-leb}
+use Rattle.projection.specs.Table.{rows}
+use Rattle.projection.specs.Refusal.{isKind}
+use Rattle.projection.proofs.table.is_kind.Statement.{statement}
+use Rattle.projection.proofs.table.is_kind.Tie as tie
+
+returns : tie.Need-returns
+unfolding isKind
+returns c = rw (c .if1 .taken)
+
+returns-2 : tie.Need-returns-2
+unfolding isKind rows
+returns-2 c = rw (le-leb 1 (c .before .args .kind) (omega (arith, c .if1 .left)))
+
+pub is-kind-spec : {M : Type 1} → statement M
+is-kind-spec = tie.close (tie.spec returns returns-2)

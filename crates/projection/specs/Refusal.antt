@@ -1,0 +1,39 @@
+-- Refusals: numbers with their conditions, in an order, of which the first that applies is given.
+use mathlib.Core.Bool.{Bool, true, false, not, cond}
+use mathlib.Core.List.{List, [], _∷_}
+use Prim.Native.Nat.{ℕ}
+use lib.Dec.{leb, ltb}
+use lib.IntN.{ℤ, natAbs}
+use lib.ListN.{length}
+use Rattle.projection.specs.Angle.{H}
+use Rattle.projection.specs.Table.{rows}
+
+pub record Refusal : Type 0 where
+  pub number : ℕ
+  pub applies : Bool
+
+-- an answer as document 01 speaks of it: a refusal by its number, or what was asked for
+pub data Outcome (A : Type 0) : Type 0 where
+  refused : ℕ → Outcome A
+  given : A → Outcome A
+
+-- the first refusal that applies, or else a
+unfoldable pub unless : {A : Type 0} → List Refusal → A → Outcome A
+unless [] a = given a
+unless (r ∷ rs) a = cond (r .applies) (refused (r .number)) (unless rs a)
+
+-- a kind of the table
+unfoldable pub isKind : ℕ → Bool
+isKind kind = cond (leb 1 kind) (leb kind (length rows)) false
+
+-- farther from 0 than n, either way
+abbrev pub outside : ℕ → ℤ → Bool
+outside n z = ltb n (natAbs z)
+
+-- 1: kind is not 1..10
+abbrev pub badKind : ℕ → Refusal
+badKind kind = record { number = 1; applies = not (isKind kind) }
+
+-- 5: latitude outside 90 degrees either way
+abbrev pub badLatitude : ℤ → Refusal
+badLatitude latitude = record { number = 5; applies = outside H latitude }

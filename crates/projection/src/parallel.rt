@@ -1,0 +1,83 @@
+// A parallel of a row: the half-width W of document 01.
+ghost use mathlib.Core.Path.{_≡_};
+ghost use Rattle.projection.specs.Parallel.{combined as combinedOf, radicand as radicandOf, rootAt, numerator as numeratorOf, halfWidth};
+ghost use Rattle.projection.specs.Columns.{Combines, Usable};
+ghost use Rattle.projection.specs.Answer.{meaning, widthOf};
+use super::angle::Angle;
+use super::table::Method;
+use super::table::Row;
+use super::table::is_kind;
+use super::table::row_of;
+use whole::Signed;
+use whole::nearest;
+use whole::root;
+
+const N_SQUARED: u64 = (Angle::N as u64) * (Angle::N as u64);
+
+// A half-width in map units, or the number of the refusal.
+pub enum Width {
+    Units(u32),
+    Refused(u8),
+}
+
+// The half-width of a kind at a latitude.
+pub fn half_width(kind: u8, latitude: i32) -> Width
+    ensures { λ r. ⌜ meaning r ≡ widthOf kind latitude ⌝ }
+{
+    if !is_kind(kind) {
+        return Width::Refused(1);
+    }
+    let at = Angle::new(latitude);
+    if at.outside(Angle::H) {
+        return Width::Refused(5);
+    }
+    let count = at.count;
+    Width::Units(row_half_width(row_of(kind), count.size))
+}
+
+// The half-width of a row at a latitude of size p.
+pub(crate) fn row_half_width(row: Row, p: u32) -> u32
+    requires { ⌜ Usable row p ⌝ }
+    ensures { λ r. ⌜ r ≡ halfWidth row p ⌝ }
+{
+    nearest((row.kx as u64) * numerator(row, p), 2 * (Angle::M as u64)) as u32
+}
+
+// a M + b q, for the q of the latitude size p.
+fn numerator(row: Row, p: u32) -> u64
+    requires { ⌜ Usable row p ⌝ }
+    ensures { λ r. ⌜ r ≡ numeratorOf row (rootAt row p) ⌝ }
+{
+    combined(row.a, Angle::M as u64, row.b, root_at(row, p))
+}
+
+// q, by the row's method.
+fn root_at(row: Row, p: u32) -> u64
+    requires { ⌜ Usable row p ⌝ }
+    ensures { λ r. ⌜ r ≡ rootAt row p ⌝ }
+{
+    let method = row.method;
+    match method {
+        Method::Unused => 0,
+        Method::Root => root(1024 * radicand(row, p)),
+        Method::Quotient => 32 * radicand(row, p) / (Angle::N as u64),
+    }
+}
+
+// s: N squared plus e times p squared.
+fn radicand(row: Row, p: u32) -> u64
+    requires { ⌜ Usable row p ⌝ }
+    ensures { λ r. ⌜ r ≡ radicandOf row p ⌝ }
+{
+    combined(1, N_SQUARED, row.e, (p as u64) * (p as u64))
+}
+
+// x u + y v, what is taken away in one difference at the end, so that no signed number is worked with.
+fn combined(x: i32, u: u64, y: i32, v: u64) -> u64
+    requires { ⌜ Combines x u y v ⌝ }
+    ensures { λ r. ⌜ r ≡ combinedOf x u y v ⌝ }
+{
+    let x = Signed::split(x);
+    let y = Signed::split(y);
+    x.plus() * u + y.plus() * v - (x.minus() * u + y.minus() * v)
+}
