@@ -11,7 +11,7 @@ use Rattle.whole.specs.Root.{IsRoot, root}
 use Rattle.whole.specs.Signed.{plus, minus}
 use Rattle.whole.proofs.Rounding.{near}
 use Rattle.whole.proofs.Squares.{square-mono, square-lt, root-is, root-mono}
-use Rattle.whole.proofs.Signs.{Parts, parts, sum, plus-mul, minus-mul}
+use Rattle.whole.proofs.Signs.{Parts, parts, sum, plus-mul, minus-mul, natAbs-whole}
 use Rattle.projection.specs.declared.table.Row.{Row}
 use Rattle.projection.specs.declared.table.Method.{Method}
 use Rattle.projection.specs.declared.table.Method.the-variants.{Unused, Root, Quotient}
@@ -52,6 +52,14 @@ combined-is x u y v h =
     let y2 = minus-mul y v in
     let z = parts (x *ℤ pos u +ℤ y *ℤ pos v) in
     omega arith
+
+pub combined-whole : (x : ℤ) (u : ℕ) (y : ℤ) (v : ℕ) → NotBelow x u y v → pos (combined x u y v) ≡ x *ℤ pos u +ℤ y *ℤ pos v
+unfolding combined
+combined-whole x u y v h =
+    let z = parts (x *ℤ pos u +ℤ y *ℤ pos v) in
+    let e = combined-is x u y v h in
+    let s = sum (x *ℤ pos u) (y *ℤ pos v) in
+    natAbs-whole (x *ℤ pos u +ℤ y *ℤ pos v) (omega (arith, plus-mul x u, minus-mul x u, plus-mul y v, minus-mul y v))
 
 -- u + y v moves one way as v grows, by the sign of y
 monotone : (y : ℤ) (u v w s t : ℕ) → v ≤ w → s + minus y * v ≡ u + plus y * v → t + minus y * w ≡ u + plus y * w → Between u s t

@@ -68,6 +68,15 @@ natAbs-neg (pos zero) = refl
 natAbs-neg (pos (suc n)) = refl
 natAbs-neg (negsuc n) = refl
 
+pub natAbs-mul : (z : ℤ) (k : ℕ) → natAbs (z *ℤ pos k) ≡ natAbs z * k
+natAbs-mul (pos n) k = refl
+natAbs-mul (negsuc n) k = natAbs-neg (pos (suc n * k))
+
+-- a number with no negative part is its own size
+pub natAbs-whole : (z : ℤ) → minus z ≡ 0 → pos (natAbs z) ≡ z
+natAbs-whole (pos n) e = refl
+natAbs-whole (negsuc n) e = absurd (omega arith)
+
 -- a signed number whose size fits is read back out of its bits as it was
 mag-le : (z : ℤ) → mag z ≤ natAbs z
 mag-le (pos n) = le-refl n

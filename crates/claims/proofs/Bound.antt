@@ -1,0 +1,89 @@
+-- Demand 2's bound: W is less than 1 away from the expression with the exact root or quotient.
+use mathlib.Core.Path.{_≡_, refl, sym, ap, _∙_}
+use Prim.Native.Nat.{ℕ, suc, _+_, _*_, _/_, _≤_, _<_}
+use native.Mathlib.Nat.{mul-zero, mul-add, mul-comm, mul-assoc, mul-left-comm, mul-le-mul-left}
+use native.Mathlib.Omega.{arith}
+use lib.IntN.{ℤ, pos, negsuc, negℤ, natAbs, _+ℤ_, _-ℤ_, _*ℤ_}
+use Rattle.whole.specs.Root.{IsRoot}
+use Rattle.whole.specs.Nearest.{Near}
+use Rattle.whole.specs.Signed.{plus, minus}
+use Rattle.whole.proofs.Squares.{root-is}
+use Rattle.whole.proofs.Signs.{Parts, parts, sum, plus-neg, minus-neg, plus-mul, minus-mul, natAbs-mul}
+use Rattle.projection.specs.declared.table.Row.{Row}
+use Rattle.projection.specs.declared.table.Method.{Method}
+use Rattle.projection.specs.declared.table.Method.the-variants.{Unused, Root, Quotient}
+use Rattle.projection.specs.Angle.{N, H, M}
+use Rattle.projection.specs.Parallel.{radicand, rootBy, rootAt, combined, numerator, halfWidth}
+use Rattle.projection.specs.Columns.{Columns, Usable}
+use Rattle.projection.proofs.Widths.{combined-is, numerator-whole, width-near}
+use Rattle.claims.specs.Demands.{slope, rest, WithinOne}
+use Rattle.claims.proofs.Roots.{AtMost, AtLeast, near-root}
+
+-- x times a M + b q, each product with x inside
+regroup : (x a b q : ℕ) → x * (a * M + b * q) ≡ a * (x * M) + b * x * q
+regroup x a b q = omega (arith, mul-add x (a * M) (b * q), mul-left-comm x a M, mul-left-comm x b q, mul-assoc b x q)
+
+-- by the rounding alone, 2 M W - KX a M is at most M away from KX b q
+rounded : (r : Row) (p : ℕ) → Usable r p → AtMost (rest r p) (slope r) (rootAt r p) M × AtLeast (rest r p) (slope r) (rootAt r p) M
+unfolding numerator
+rounded r p u =
+    let x = r .kx in
+    let q = rootAt r p in
+    let n = width-near r p u in
+    let e = combined-is (r .a) M (r .b) q (numerator-whole r p u) in
+    let c = sym (mul-add x (numerator r q) (minus (r .a) * M + minus (r .b) * q)) ∙ ap (λ (k : ℕ). x * k) e in
+    let d1 = regroup x (plus (r .a)) (plus (r .b)) q in
+    let d2 = regroup x (minus (r .a)) (minus (r .b)) q in
+    let s = sum (pos (2 * M * halfWidth r p)) (negℤ (r .a *ℤ pos (x * M))) in
+    let n1 = plus-neg (r .a *ℤ pos (x * M)) in
+    let n2 = minus-neg (r .a *ℤ pos (x * M)) in
+    let a1 = plus-mul (r .a) (x * M) in
+    let a2 = minus-mul (r .a) (x * M) in
+    rw (plus-mul (r .b) x, minus-mul (r .b) x) (omega arith, omega arith)
+
+slope-small : (r : Row) (p : ℕ) → Usable r p → natAbs (slope r) < M
+slope-small r p u = rw (natAbs-mul (r .b) (r .kx), mul-comm (natAbs (r .b)) (r .kx)) (u .columns .kx-fine)
+
+-- y times a number from n q to n q + n, for a part of y
+bracket : (y n q t : ℕ) → n * q ≤ t → t ≤ n * q + n → (n * (y * q) ≤ y * t) × (y * t ≤ n * (y * q) + y * n)
+bracket y n q t h k =
+    let l = mul-le-mul-left y h in
+    let u = mul-le-mul-left y k in
+    let e = mul-left-comm y n q in
+    let d = mul-add y (n * q) n in
+    (omega arith, omega arith)
+
+-- g is at most M away from y q, and q is the floor of t / N: so N g is less than 2 M N away from y t
+by-quotient : (y g : ℤ) (q t : ℕ) → N * q ≤ t → t ≤ N * q + N → natAbs y < M → AtMost g y q M → AtLeast g y q M → natAbs (g *ℤ pos N -ℤ y *ℤ pos t) < 2 * M * N
+by-quotient y g q t h k b l m =
+    let z = parts (g *ℤ pos N -ℤ y *ℤ pos t) in
+    let s = sum (g *ℤ pos N) (negℤ (y *ℤ pos t)) in
+    let n1 = plus-neg (y *ℤ pos t) in
+    let n2 = minus-neg (y *ℤ pos t) in
+    let g1 = plus-mul g N in
+    let g2 = minus-mul g N in
+    let y1 = plus-mul y t in
+    let y2 = minus-mul y t in
+    let c1 = bracket (plus y) N q t h k in
+    let c2 = bracket (minus y) N q t h k in
+    let i = parts y in
+    omega arith
+
+by-nothing : (y g : ℤ) → AtMost g y 0 M → AtLeast g y 0 M → natAbs g < 2 * M
+by-nothing y g l m = let i = parts g in omega (arith, mul-zero (plus y), mul-zero (minus y))
+
+within : (method : Method) (r : Row) (p : ℕ) → Usable r p → rootAt r p ≡ rootBy method (radicand r p) → WithinOne method r p
+unfolding rootBy
+within Unused r p u e =
+    let n = rounded r p u in
+    by-nothing (slope r) (rest r p) (rw e at (n .0)) (rw e at (n .1))
+within Root r p u e =
+    let n = rounded r p u in
+    near-root (slope r) (rest r p) (1024 * radicand r p) (rootAt r p) M (rw e (root-is (1024 * radicand r p))) (slope-small r p u) (n .0) (n .1)
+within Quotient r p u e =
+    let n = rounded r p u in
+    by-quotient (slope r) (rest r p) (rootAt r p) (32 * radicand r p) (omega arith) (omega arith) (slope-small r p u) (n .0) (n .1)
+
+pub within-one : (r : Row) (p : ℕ) → Usable r p → WithinOne (r .method) r p
+unfolding rootAt
+within-one r p u = within (r .method) r p u refl

@@ -1,0 +1,42 @@
+-- From the floor of a root to its exact value: what is near y times the floor is near y times the root.
+use mathlib.Core.Path.{_≡_, sym}
+use Prim.Native.Nat.{ℕ, suc, _+_, _*_, _≤_, _<_}
+use native.Mathlib.Nat.{mul-suc, mul-mul-mul-comm, mul-le-mul-left, le-of-lt, lt-of-lt-of-le, lt-of-le-of-lt}
+use native.Mathlib.Omega.{arith}
+use lib.IntN.{ℤ, pos, negsuc, negℤ, natAbs, _-ℤ_}
+use Rattle.whole.specs.Root.{IsRoot}
+use Rattle.whole.specs.Signed.{plus, minus}
+use Rattle.whole.proofs.Squares.{square-mono-lt}
+use Rattle.whole.proofs.Signs.{sum, plus-neg, minus-neg, natAbs-neg}
+use Rattle.claims.specs.ExactRoot.{BelowRoot, NearRoot}
+
+-- g ≤ y q + m, and y q ≤ g + m
+abbrev pub AtMost : ℤ → ℤ → ℕ → ℕ → Type 0
+AtMost g y q m = plus g + minus y * q ≤ minus g + plus y * q + m
+
+abbrev pub AtLeast : ℤ → ℤ → ℕ → ℕ → Type 0
+AtLeast g y q m = minus g + plus y * q ≤ plus g + minus y * q + m
+
+-- u is g - 2 m: below y q by m or more where q is a floor, and so below y times the root
+below-by : (u y : ℤ) (g : ℤ) (s q m : ℕ) → plus u + (minus g + 2 * m) ≡ minus u + plus g → IsRoot s q → natAbs y < m → AtMost g y q m → BelowRoot u y s
+below-by (pos u) (pos y) g s q m e r h k =
+    let l : u < y * q = omega arith in
+    lt-of-lt-of-le (square-mono-lt l) (rw (mul-mul-mul-comm y q y q) (mul-le-mul-left (y * y) (r .low)))
+below-by (negsuc u) (pos y) g s q m e r h k = tt
+below-by (pos u) (negsuc y) g s q m e r h k = omega arith
+below-by (negsuc u) (negsuc y) g s q m e r h k =
+    let l : suc y * suc q < suc u = rw mul-suc (omega arith) in
+    lt-of-le-of-lt (mul-le-mul-left (suc y * suc y) (le-of-lt (r .high))) (rw (← mul-mul-mul-comm (suc y) (suc q) (suc y) (suc q)) (square-mono-lt l))
+
+below : (y g : ℤ) (s q m : ℕ) → IsRoot s q → natAbs y < m → AtMost g y q m → BelowRoot (g -ℤ pos (2 * m)) y s
+below y g s q m r h k =
+    let e = sum g (negℤ (pos (2 * m))) in
+    let a = plus-neg (pos (2 * m)) in
+    let b = minus-neg (pos (2 * m)) in
+    below-by (g -ℤ pos (2 * m)) y g s q m (omega arith) r h k
+
+pub near-root : (y g : ℤ) (s q m : ℕ) → IsRoot s q → natAbs y < m → AtMost g y q m → AtLeast g y q m → NearRoot y s g (2 * m)
+near-root y g s q m r h k l = (
+  below y g s q m r h k,
+  below (negℤ y) (negℤ g) s q m r (rw (natAbs-neg y) h) (rw (plus-neg g, minus-neg g, plus-neg y, minus-neg y) l),
+)

@@ -1,0 +1,39 @@
+-- The worked examples of document 01 ('Either side of each line'), as one table under one statement.
+use mathlib.Core.Path.{_≡_}
+use mathlib.Core.List.{List, [], _∷_, map}
+use Prim.Native.Nat.{ℕ}
+use lib.IntN.{ℤ, pos}
+use Rattle.projection.specs.Table.{rowOf}
+use Rattle.projection.specs.Parallel.{halfWidth, height}
+
+-- an example's number, what the definitions give, and what document 01 writes
+pub record Example : Type 0 where
+  pub number : ℕ
+  pub defined : List ℤ
+  pub written : List ℤ
+
+abbrev pub example : ℕ → List ℤ → List ℤ → Example
+example n d w = record { number = n; defined = d; written = w }
+
+-- W and y of a kind at a northern latitude
+abbrev pub width : ℕ → ℕ → ℤ
+width kind p = pos (halfWidth (rowOf kind) p)
+
+abbrev pub y : ℕ → ℕ → ℤ
+y kind p = pos (height (rowOf kind) p)
+
+unfoldable pub examples : List Example
+examples =
+    example 3 (width 6 32400000 ∷ y 6 32400000 ∷ []) (pos 136034953 ∷ pos 157079633 ∷ [])
+    ∷ example 4 (width 2 19440000 ∷ y 2 19440000 ∷ []) (pos 251327412 ∷ pos 94247780 ∷ [])
+    ∷ example 5 (width 2 25920000 ∷ y 2 25920000 ∷ []) (pos 188495559 ∷ pos 125663706 ∷ [])
+    ∷ example 6 (width 5 0 ∷ width 5 32400000 ∷ []) (pos 265300086 ∷ pos 132650043 ∷ [])
+    ∷ example 7 (width 7 16200000 ∷ []) (pos 187997120 ∷ [])
+    ∷ example 8 (width 8 16200000 ∷ width 8 32400000 ∷ []) (pos 219329974 ∷ pos 125331414 ∷ [])
+    ∷ example 9 (width 9 0 ∷ width 9 32400000 ∷ []) (pos 318387849 ∷ pos 0 ∷ [])
+    ∷ example 10 (width 10 32400000 ∷ []) (pos 159193925 ∷ [])
+    ∷ []
+
+-- every example is as document 01 writes it
+abbrev pub Examples : Type 0
+Examples = map (λ (e : Example). e .defined) examples ≡ map (λ (e : Example). e .written) examples
