@@ -1,12 +1,15 @@
 -- From the floor of a root to its exact value: what is near y times the floor is near y times the root.
-use mathlib.Core.Path.{_≡_, sym}
-use Prim.Native.Nat.{ℕ, suc, _+_, _*_, _≤_, _<_}
+use mathlib.Core.Logic.{_↔_}
+use mathlib.Core.Path.{_≡_}
+use Prim.Native.Nat.{ℕ, zero, suc, _+_, _*_, _≤_, _<_}
 use native.Mathlib.Nat.{mul-suc, mul-mul-mul-comm, mul-le-mul-left, le-of-lt, lt-of-lt-of-le, lt-of-le-of-lt}
 use native.Mathlib.Omega.{arith}
-use lib.IntN.{ℤ, pos, negsuc, negℤ, natAbs, _-ℤ_}
+use lib.Dec.{ltb→lt, lt→ltb}
+use lib.IntN.{ℤ, pos, negsuc, negℤ, natAbs, _-ℤ_, _*ℤ_}
+use lib.Signed.{_<ℤ_}
 use Rattle.whole.specs.Root.{IsRoot}
 use Rattle.whole.specs.Signed.{plus, minus}
-use Rattle.whole.proofs.Squares.{square-mono-lt}
+use Rattle.whole.proofs.Squares.{square-lt, square-mono-lt}
 use Rattle.whole.proofs.Signs.{sum, plus-neg, minus-neg, natAbs-neg}
 use Rattle.claims.specs.ExactRoot.{BelowRoot, NearRoot}
 
@@ -40,3 +43,33 @@ near-root y g s q m r h k l = (
   below y g s q m r h k,
   below (negℤ y) (negℤ g) s q m r (rw (natAbs-neg y) h) (rw (plus-neg g, minus-neg g, plus-neg y, minus-neg y) l),
 )
+
+-- ---- where s is a square, the order is that of ℤ
+squares : (a b c : ℕ) → (a * a < b * b * (c * c)) ↔ (a < b * c)
+squares a b c =
+    let e = mul-mul-mul-comm b c b c in
+    (λ h. square-lt a (b * c) (rw e h), λ h. rw (← e) (square-mono-lt h))
+
+squares-above : (a b c : ℕ) → (b * b * (c * c) < a * a) ↔ (b * c < a)
+squares-above a b c =
+    let e = mul-mul-mul-comm b c b c in
+    (λ h. square-lt (b * c) a (rw e h), λ h. rw (← e) (square-mono-lt h))
+
+not-negative : (u k : ℕ) → pos u <ℤ negℤ (pos k) → ⊥
+not-negative u zero h = omega (arith, ltb→lt u 0 (h .lt))
+not-negative u (suc k) h = h .lt
+
+negative : (u k : ℕ) → (k < suc u) ↔ (negsuc u <ℤ negℤ (pos k))
+negative u zero = (λ h. record { lt = tt }, λ h. omega arith)
+negative u (suc k) = (λ h. record { lt = lt→ltb k u (omega arith) }, λ h. omega (arith, ltb→lt k u (h .lt)))
+
+pub exact : (u y : ℤ) (r : ℕ) → BelowRoot u y (r * r) ↔ (u <ℤ (y *ℤ pos r))
+exact (pos u) (pos y) r =
+    let e = squares u y r in
+    (λ h. record { lt = lt→ltb u (y * r) (e .0 h) }, λ h. e .1 (ltb→lt u (y * r) (h .lt)))
+exact (negsuc u) (pos y) r = (λ h. record { lt = tt }, λ h. tt)
+exact (pos u) (negsuc y) r = (λ h. absurd h, λ h. not-negative u (suc y * r) h)
+exact (negsuc u) (negsuc y) r =
+    let e = squares-above (suc u) (suc y) r in
+    let f = negative u (suc y * r) in
+    (λ h. f .0 (e .0 h), λ h. e .1 (f .1 h))

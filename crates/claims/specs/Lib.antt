@@ -1,3 +1,4 @@
 pub mod Demands
 pub mod Examples
+pub mod Arithmetic
 pub mod ExactRoot

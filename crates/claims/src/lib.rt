@@ -1,8 +1,9 @@
 // What the product claims, in one contract: the crate is proved only while each claim has its proof.
+ghost use Rattle.claims.specs.Arithmetic.{Arithmetic};
 ghost use Rattle.claims.specs.Demands.{Demands};
 ghost use Rattle.claims.specs.Examples.{Examples};
 
 // Does nothing. Its `ensures` is the product of all claims.
 pub fn hold()
-    ensures { λ _. ⌜ Demands × Examples ⌝ }
+    ensures { λ _. ⌜ Demands × Examples × Arithmetic ⌝ }
 {}

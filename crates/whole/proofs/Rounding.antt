@@ -1,10 +1,10 @@
 -- The law of `nearest`. Nothing else opens its definition, so that the decision for halves is proved here alone.
 use mathlib.Core.Path.{_≡_, refl, ap}
 use mathlib.Core.Bool.{Bool, true, false, cond}
-use Prim.Native.Nat.{ℕ, _+_, _*_, _/_, _%_, _≤_, _<_}
-use native.Mathlib.Nat.{div-add-mod', mod-lt, mul-add, mul-comm}
+use Prim.Native.Nat.{ℕ, suc, _+_, _*_, _/_, _%_, _≤_, _<_}
+use native.Mathlib.Nat.{div-add-mod', mod-lt, mul-add, mul-comm, mul-add-div, div-eq-of-lt, mul-add-mod-self-left, mod-eq-of-lt, le-refl}
 use native.Mathlib.Omega.{arith}
-use borrow.Author.Tests.{leb-true, leb-false, ne-eqb}
+use borrow.Author.Tests.{leb-true, leb-false, le-leb, ne-eqb}
 use lib.Dec.{leb}
 use Rattle.whole.specs.Nearest.{carry, nearest, Near}
 
@@ -28,3 +28,15 @@ near n d h =
     let p = mul-comm d (n / d) in
     let s = mul-add d (n / d) (carry (n % d) d) in
     rw (nearest-is n d h) (record { hi = omega arith; lo = omega arith })
+
+-- a half goes up
+carry-half : (h : ℕ) → carry h (2 * h) ≡ 1
+unfolding carry
+carry-half h = rw (le-leb (2 * h) (2 * h) (le-refl (2 * h)))
+
+pub half : (k h : ℕ) → 0 < h → nearest (2 * h * k + h) (2 * h) ≡ suc k
+half k h l =
+    let p : 0 < 2 * h = omega arith in
+    let s : h < 2 * h = omega arith in
+    rw (nearest-is (2 * h * k + h) (2 * h) p, mul-add-div p k h, div-eq-of-lt s, mul-add-mod-self-left (2 * h) k h, mod-eq-of-lt s, carry-half h)
+    (omega arith)

@@ -4,6 +4,8 @@ use Prim.Native.Nat.{ℕ, _*_}
 use lib.IntN.{pos}
 use Rattle.whole.specs.Nearest.{nearest, carry}
 use Rattle.whole.specs.Root.{root, rootIn}
+use Rattle.whole.proofs.Rounding.{near, half}
+use Rattle.whole.proofs.Squares.{root-is}
 use Rattle.projection.specs.declared.table.Row.{Row}
 use Rattle.projection.specs.Angle.{N, H, M}
 use Rattle.projection.specs.Table.{rows, rowOf}
@@ -12,9 +14,11 @@ use Rattle.projection.specs.Refusal.{isKind}
 use Rattle.projection.specs.Columns.{Usable}
 use Rattle.projection.proofs.Rows.{columns}
 use Rattle.projection.proofs.Widths.{combined-whole, radicand-whole, numerator-whole, width-small}
+use Rattle.claims.specs.Arithmetic.{Arithmetic}
 use Rattle.claims.specs.Demands.{Demands, Parallel}
 use Rattle.claims.specs.Examples.{Examples, examples}
 use Rattle.claims.proofs.Bound.{within-one}
+use Rattle.claims.proofs.Roots.{exact}
 use Rattle.claims.proofs.hold.Statement.{statement}
 use Rattle.claims.proofs.hold.Tie as tie
 
@@ -37,8 +41,11 @@ worked : Examples
 unfolding examples rowOf rows halfWidth height numerator rootAt radicand rootBy combined nearest carry root rootIn
 worked = refl
 
+arithmetic : Arithmetic
+arithmetic = record { near = near; half = half; floor = root-is; exact = exact }
+
 returns : tie.Need-returns
-returns c = (demands, worked)
+returns c = (demands, worked, arithmetic)
 
 pub hold-spec : {M : Type 1} → statement M
 hold-spec = tie.close (tie.spec returns)

@@ -1,0 +1,82 @@
+// A line of the input, read a byte at a time: a letter, then whole numbers in decimal, each after a space.
+use whole::Signed;
+
+pub struct Line {
+    pub letter: u8,
+    pub values: [Signed; 4],
+    pub count: usize,
+    // The number that is being read.
+    pub size: u32,
+    pub digits: bool,
+    pub negative: bool,
+    // Whether the bytes so far can begin a request.
+    pub good: bool,
+}
+
+impl Line {
+    pub fn new() -> Line {
+        Line {
+            letter: 0,
+            values: [Signed::split(0); 4],
+            count: 0,
+            size: 0,
+            digits: false,
+            negative: false,
+            good: true,
+        }
+    }
+
+    // The line with one byte more.
+    pub fn with_byte(mut self, byte: u8) -> Line {
+        if self.letter == 0 {
+            self.letter = byte;
+            return self;
+        }
+        if byte == b' ' {
+            return self.with_end();
+        }
+        if byte == b'-' {
+            self.good = self.good && !self.digits && !self.negative;
+            self.negative = true;
+            return self;
+        }
+        if byte < b'0' || byte > b'9' {
+            self.good = false;
+            return self;
+        }
+        self.size = grown(self.size, byte - b'0');
+        self.digits = true;
+        self
+    }
+
+    // The line with the number that is being read, if there is one, among its values.
+    pub fn with_end(mut self) -> Line {
+        if !self.digits {
+            self.good = self.good && !self.negative;
+            return self;
+        }
+        let at = self.count;
+        if at >= 4 {
+            self.good = false;
+            return self;
+        }
+        self.values[at] = Signed {
+            negative: self.negative,
+            size: self.size,
+        };
+        self.count = at + 1;
+        self.size = 0;
+        self.digits = false;
+        self.negative = false;
+        self
+    }
+}
+
+// The size with a decimal digit more; one too large for an answer stays as it is, and is refused by the same number.
+fn grown(size: u32, digit: u8) -> u32 {
+    if size < 400000000 {
+        size * 10 + digit as u32
+    } else {
+        size
+    }
+}

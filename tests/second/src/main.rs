@@ -1,0 +1,52 @@
+//! The second program: document 01's rules once more, with no code of the product. `second requests` writes requests for
+//! the program `query`, and `second answers` reads such requests and writes what is to be answered.
+mod map;
+mod requests;
+mod table;
+
+use map::{half_width, Answer};
+use std::io::{self, Read, Write};
+
+fn main() -> io::Result<()> {
+    let mut out = io::stdout().lock();
+    match std::env::args().nth(1).as_deref() {
+        Some("requests") => out.write_all(requests::all().as_bytes()),
+        Some("answers") => {
+            let mut text = String::new();
+            io::stdin().read_to_string(&mut text)?;
+            for line in text.lines() {
+                writeln!(out, "{}", answer(line))?;
+            }
+            Ok(())
+        }
+        _ => {
+            eprintln!("second requests | second answers");
+            std::process::exit(2)
+        }
+    }
+}
+
+fn answer(line: &str) -> String {
+    match numbers(line).as_deref() {
+        Some([kind, latitude]) if line.starts_with('w') => match half_width(*kind, *latitude) {
+            Answer::Width(w) => w.to_string(),
+            Answer::Refused(n) => format!("refused {n}"),
+        },
+        _ => "unreadable".to_string(),
+    }
+}
+
+/// The whole numbers that follow a line's letter.
+fn numbers(line: &str) -> Option<Vec<i128>> {
+    let rest = line.get(1..)?;
+    let words = rest.split(' ').filter(|word| !word.is_empty());
+    words.map(number).collect()
+}
+
+fn number(word: &str) -> Option<i128> {
+    let digits = word.strip_prefix('-').unwrap_or(word);
+    if !digits.bytes().all(|b| b.is_ascii_digit()) {
+        return None;
+    }
+    word.parse().ok()
+}

@@ -1,0 +1,40 @@
+//! The rows, worked out from the sources' factors: KX and KY are the factors times pi times 10^8, to the nearest whole.
+use std::f64::consts::PI;
+
+pub struct Row {
+    pub kx: i128,
+    pub a: i128,
+    pub b: i128,
+    pub e: i128,
+    pub quotient: bool,
+}
+
+fn scaled(factor: f64) -> i128 {
+    (factor * PI * 1e8).round() as i128
+}
+
+fn row(cx: f64, a: i128, b: i128, e: i128) -> Row {
+    Row { kx: scaled(cx), a, b, e, quotient: false }
+}
+
+fn straight(row: Row) -> Row {
+    Row { quotient: true, ..row }
+}
+
+/// The row of a kind from 1 to 10.
+pub fn row_of(kind: i128) -> Option<Row> {
+    let eckert = (PI * (4.0 + PI)).sqrt();
+    Some(match kind {
+        1 => row(1.0, 2, 0, 0),
+        2 => row(1.0, 0, 2, -4),
+        3 => row(0.94745, 0, 2, -3),
+        4 => row(1.89490, -1, 2, -3),
+        5 => row(2.0 / eckert, 2, 2, -4),
+        6 => row(3f64.sqrt() / 2.0, 0, 2, -3),
+        7 => straight(row((2.0 / PI).sqrt(), 0, 2, -4)),
+        8 => straight(row((2.0 / PI).sqrt(), 0, 2, -2)),
+        9 => row(1.01346, 4, -2, 12),
+        10 => row(1.01346, 3, -1, 12),
+        _ => return None,
+    })
+}
