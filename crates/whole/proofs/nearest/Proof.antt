@@ -43,17 +43,18 @@ sub-if2 c = omega (arith, mod-lt (c .before .args .n) (divisor c))
 add-result : tie.Need-add-result
 add-result c =
     let s = c .before .before in
-    omega (arith, room (s .args .n) (s .args .d) (divisor (c .before)) (c .if2 .taken), mod-lt (s .args .n) (divisor (c .before)))
+    let t : s .args .d - s .args .n % s .args .d ≤ s .args .n % s .args .d = omega (arith, c .if2 .taken) in
+    omega (arith, room (s .args .n) (s .args .d) (divisor (c .before)) t, mod-lt (s .args .n) (divisor (c .before)))
 
 returns-2 : tie.Need-returns-2
 returns-2 c =
     let s = c .before .before in
-    rw (nearest-is (s .args .n) (s .args .d) (divisor (c .before)), carry-one (s .args .n % s .args .d) (s .args .d) (c .if2 .taken))
+    rw (nearest-is (s .args .n) (s .args .d) (divisor (c .before)), carry-one (s .args .n % s .args .d) (s .args .d) (omega (arith, c .if2 .taken)))
 
 returns-3 : tie.Need-returns-3
 returns-3 c =
     let s = c .before .before in
-    rw (nearest-is (s .args .n) (s .args .d) (divisor (c .before)), carry-none (s .args .n % s .args .d) (s .args .d) (c .if2 .left)) (omega arith)
+    rw (nearest-is (s .args .n) (s .args .d) (divisor (c .before)), carry-none (s .args .n % s .args .d) (s .args .d) (omega (arith, c .if2 .left))) (omega arith)
 
 pub nearest-spec : {M : Type 1} → statement M
 nearest-spec = tie.close (tie.spec returns div-q rem-r sub-if2 add-result returns-2 returns-3)

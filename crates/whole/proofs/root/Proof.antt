@@ -78,7 +78,7 @@ loop-again c =
     let s = c .before .before .loop .inv in
     let j = joined (c .before) in
     rw (bit (c .before))
-    (record { low = rw (bit (c .before)) at (c .if1 .taken); high = rw j (s .high); room = omega arith; places = omega arith })
+    (record { low = omega (arith, rw (bit (c .before)) at (c .if1 .taken)); high = rw j (s .high); room = omega arith; places = omega arith })
 
 loop-less-2 : tie.Need-loop-less-2 Inv-loop μ-loop
 loop-less-2 c = omega arith
@@ -86,7 +86,7 @@ loop-less-2 c = omega arith
 loop-again-2 : tie.Need-loop-again-2 Inv-loop μ-loop
 loop-again-2 c =
     let s = c .before .before .loop .inv in
-    record { low = s .low; high = rw (bit (c .before)) at (c .if1 .left); room = omega (arith, below (c .before)); places = omega arith }
+    record { low = s .low; high = omega (arith, rw (bit (c .before)) at (c .if1 .left)); room = omega (arith, below (c .before)); places = omega arith }
 
 returns : tie.Need-returns Inv-loop μ-loop
 returns c =

@@ -23,7 +23,7 @@ combined-requires c κs =
       y-small = s .pre .columns .b-small;
       u-small = omega arith;
       v-small = omega (arith, root-small (s .args .row) (s .args .p) (s .pre));
-      whole = numerator-whole (s .args .row) (s .args .p) (s .pre);
+      whole = omega (arith, numerator-whole (s .args .row) (s .args .p) (s .pre));
     })
 
 returns : tie.Need-returns

@@ -25,7 +25,7 @@ combined-requires c κs =
       y-small = s .pre .columns .e-small;
       u-small = omega arith;
       v-small = omega (arith, square-le s);
-      whole = radicand-whole (s .args .row) (s .args .p) (s .pre);
+      whole = omega (arith, radicand-whole (s .args .row) (s .args .p) (s .pre));
     })
 
 returns : tie.Need-returns
