@@ -1,12 +1,13 @@
 -- The law of `nearest`. Nothing else opens its definition, so that the decision for halves is proved here alone.
 use mathlib.Core.Path.{_≡_, refl, ap}
 use mathlib.Core.Bool.{Bool, true, false, cond}
-use Prim.Native.Nat.{ℕ, suc, _+_, _*_, _/_, _%_, _≤_, _<_}
-use native.Mathlib.Nat.{div-add-mod', mod-lt, mul-add, mul-comm, mul-add-div, div-eq-of-lt, mul-add-mod-self-left, mod-eq-of-lt, le-refl}
+use Prim.Native.Nat.{ℕ, zero, suc, _+_, _*_, _/_, _%_, _≤_, _<_}
+use native.Mathlib.Nat.{div-add-mod', mod-lt, mul-add, mul-comm, mul-add-div, div-eq-of-lt, mul-add-mod-self-left, mod-eq-of-lt, le-refl, le-antisymm}
 use native.Mathlib.Omega.{arith}
 use borrow.Author.Tests.{leb-true, leb-false, le-leb, ne-eqb}
 use lib.Dec.{leb}
 use Rattle.whole.specs.Nearest.{carry, nearest, Near}
+use Rattle.whole.proofs.Products.{cancel}
 
 -- what is added to the floor is nearest to what is left over
 carry-near : (r d : ℕ) → r < d → Near r d (carry r d)
@@ -28,6 +29,11 @@ near n d h =
     let p = mul-comm d (n / d) in
     let s = mul-add d (n / d) (carry (n % d) d) in
     rw (nearest-is n d h) (record { hi = omega arith; lo = omega arith })
+
+pub nearest-zero : (d : ℕ) → nearest 0 d ≡ 0
+unfolding nearest
+nearest-zero zero = refl
+nearest-zero (suc d) = let n = near 0 (suc d) (omega arith) in le-antisymm (cancel (suc d) (omega arith)) (omega arith)
 
 -- a half goes up
 carry-half : (h : ℕ) → carry h (2 * h) ≡ 1

@@ -6,13 +6,15 @@ use native.Mathlib.Nat.{zero-mul, le-refl, lt-of-le-of-lt}
 use native.Mathlib.Omega.{arith}
 use borrow.Author.Tests.{ltb-true, ltb-false}
 use lib.Dec.{ltb}
-use lib.IntN.{ℤ, pos, negsuc, negℤ, natAbs, subℕ, _+ℤ_, _*ℤ_}
+use lib.IntN.{ℤ, pos, negsuc, negℤ, natAbs, subℕ, _+ℤ_, _*ℤ_, negℤ-negℤ}
 use lib.Signed.{mag}
 use mir.Syntax.{Width}
 use mir.Val.{SFits, hbits, toZ, ofZ}
 use mir.Facts.{toZ-ofZ}
+use Rattle.whole.specs.Nearest.{nearest}
 use Rattle.whole.specs.declared.Signed.{Signed}
-use Rattle.whole.specs.Signed.{splitOf, joinOf, plus, minus, withSign, nearestSigned}
+use Rattle.whole.specs.Signed.{splitOf, joinOf, plus, minus, nearestSigned}
+use Rattle.whole.proofs.Rounding.{nearest-zero}
 
 pub join-split : (z : ℤ) → joinOf (splitOf z) ≡ z
 join-split (pos n) = refl
@@ -71,6 +73,16 @@ natAbs-neg (negsuc n) = refl
 pub natAbs-mul : (z : ℤ) (k : ℕ) → natAbs (z *ℤ pos k) ≡ natAbs z * k
 natAbs-mul (pos n) k = refl
 natAbs-mul (negsuc n) k = natAbs-neg (pos (suc n * k))
+
+-- signed rounding is the same on both sides of 0, and rounds the size
+pub nearest-neg : (z : ℤ) (d : ℕ) → nearestSigned (negℤ z) d ≡ negℤ (nearestSigned z d)
+nearest-neg (pos zero) d = rw (nearest-zero d)
+nearest-neg (pos (suc n)) d = refl
+nearest-neg (negsuc n) d = sym (negℤ-negℤ (pos (nearest (suc n) d)))
+
+pub natAbs-nearest : (z : ℤ) (d : ℕ) → natAbs (nearestSigned z d) ≡ nearest (natAbs z) d
+natAbs-nearest (pos n) d = refl
+natAbs-nearest (negsuc n) d = natAbs-neg (pos (nearest (suc n) d))
 
 -- a number with no negative part is its own size
 pub natAbs-whole : (z : ℤ) → minus z ≡ 0 → pos (natAbs z) ≡ z

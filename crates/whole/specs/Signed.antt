@@ -29,5 +29,4 @@ minus (negsuc n) = suc n
 
 -- the whole number nearest to z / d: the size is rounded, and the sign put back
 abbrev pub nearestSigned : ℤ → ℕ → ℤ
-nearestSigned (pos n) d = pos (nearest n d)
-nearestSigned (negsuc n) d = negℤ (pos (nearest (suc n) d))
+nearestSigned z d = withSign (splitOf z .negative) (nearest (splitOf z .size) d)

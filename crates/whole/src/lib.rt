@@ -4,7 +4,7 @@ ghost use Rattle.whole.specs.Nearest.{nearest as nearestOf};
 ghost use Rattle.whole.specs.Root.{root as rootOf};
 ghost use Rattle.whole.specs.Signed.{splitOf, joinOf, plus as plusOf, minus as minusOf};
 
-// The whole number nearest to n / d.
+// The whole number nearest to n / d; a quotient by 0 counts as 0.
 pub fn nearest(n: u64, d: u64) -> u64
     ensures { λ r. ⌜ r ≡ nearestOf n d ⌝ }
 {
@@ -39,6 +39,7 @@ pub struct Signed {
 }
 
 impl Signed {
+    // A number taken apart.
     pub fn split(z: i32) -> Signed
         ensures { λ r. ⌜ r ≡ splitOf z ⌝ }
     {
@@ -55,6 +56,7 @@ impl Signed {
         }
     }
 
+    // The number put together: 64 bits hold every sign and size.
     pub fn join(self) -> i64
         ensures { λ r. ⌜ r ≡ joinOf self ⌝ }
     {
