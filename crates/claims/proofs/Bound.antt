@@ -1,21 +1,21 @@
 -- Demand 2's bound: W is less than 1 away from the expression with the exact root or quotient.
 use mathlib.Core.Path.{_≡_, refl, sym, ap, _∙_}
-use Prim.Native.Nat.{ℕ, suc, _+_, _*_, _/_, _≤_, _<_}
-use native.Mathlib.Nat.{mul-zero, mul-add, mul-comm, mul-assoc, mul-left-comm, mul-le-mul-left}
+use Prim.Native.Nat.{ℕ, _+_, _*_, _≤_, _<_}
+use native.Mathlib.Nat.{zero-mul, mul-add, mul-comm, mul-assoc, mul-left-comm, mul-le-mul-left}
 use native.Mathlib.Omega.{arith}
-use lib.IntN.{ℤ, pos, negsuc, negℤ, natAbs, _+ℤ_, _-ℤ_, _*ℤ_}
-use Rattle.whole.specs.Root.{IsRoot}
-use Rattle.whole.specs.Nearest.{Near}
+use lib.IntN.{ℤ, pos, negℤ, natAbs, _-ℤ_, _*ℤ_}
+use Rattle.whole.specs.Root.{IsRoot, root}
 use Rattle.whole.specs.Signed.{plus, minus}
 use Rattle.whole.proofs.Squares.{root-is}
-use Rattle.whole.proofs.Signs.{Parts, parts, sum, plus-neg, minus-neg, plus-mul, minus-mul, natAbs-mul}
+use Rattle.whole.proofs.Signs.{parts, sum, plus-neg, minus-neg, plus-mul, minus-mul, natAbs-mul}
 use Rattle.projection.specs.declared.table.Row.{Row}
 use Rattle.projection.specs.declared.table.Method.{Method}
 use Rattle.projection.specs.declared.table.Method.the-variants.{Unused, Root, Quotient}
-use Rattle.projection.specs.Angle.{N, H, M}
-use Rattle.projection.specs.Parallel.{radicand, rootBy, rootAt, combined, numerator, halfWidth}
-use Rattle.projection.specs.Columns.{Columns, Usable}
+use Rattle.projection.specs.Angle.{N, M}
+use Rattle.projection.specs.Parallel.{radicand, rootBy, rootAt, numerator, halfWidth}
+use Rattle.projection.specs.Columns.{Usable, idle}
 use Rattle.projection.proofs.Widths.{combined-is, numerator-whole, width-near}
+use Rattle.claims.specs.ExactRoot.{NearRoot}
 use Rattle.claims.specs.Demands.{slope, rest, WithinOne}
 use Rattle.claims.proofs.Roots.{AtMost, AtLeast, near-root}
 
@@ -69,21 +69,34 @@ by-quotient y g q t h k b l m =
     let i = parts y in
     omega arith
 
-by-nothing : (y g : ℤ) → AtMost g y 0 M → AtLeast g y 0 M → natAbs g < 2 * M
-by-nothing y g l m = let i = parts g in omega (arith, mul-zero (plus y), mul-zero (minus y))
+-- b is 0 where q is not used, so that any root does in the place of 0
+unused : (y g : ℤ) (s q : ℕ) → natAbs y ≤ 0 → IsRoot s q → AtMost g y 0 M → AtLeast g y 0 M → NearRoot y s g (2 * M)
+unused y g s q z r l m =
+    let i = parts y in
+    let a : plus y ≡ 0 = omega arith in
+    let b : minus y ≡ 0 = omega arith in
+    let l' = rw (a, b) at l in
+    let m' = rw (a, b) at m in
+    near-root y g s q M r (omega arith) (rw (a, b) (omega arith)) (rw (a, b) (omega arith))
 
-within : (method : Method) (r : Row) (p : ℕ) → Usable r p → rootAt r p ≡ rootBy method (radicand r p) → WithinOne method r p
+slope-none : (r : Row) → natAbs (r .b) ≤ 0 → natAbs (slope r) ≤ 0
+slope-none r h =
+    let e : natAbs (r .b) ≡ 0 = omega arith in
+    rw (natAbs-mul (r .b) (r .kx), e, zero-mul (r .kx)) (omega arith)
+
+within : (method : Method) (r : Row) (p : ℕ) → Usable r p → idle method (r .b) ≤ 0 → rootAt r p ≡ rootBy method (radicand r p) → WithinOne method r p
 unfolding rootBy
-within Unused r p u e =
+within Unused r p u b e =
     let n = rounded r p u in
-    by-nothing (slope r) (rest r p) (rw e at (n .0)) (rw e at (n .1))
-within Root r p u e =
+    let s = 1024 * radicand r p in
+    unused (slope r) (rest r p) s (root s) (slope-none r b) (root-is s) (rw e at (n .0)) (rw e at (n .1))
+within Root r p u b e =
     let n = rounded r p u in
     near-root (slope r) (rest r p) (1024 * radicand r p) (rootAt r p) M (rw e (root-is (1024 * radicand r p))) (slope-small r p u) (n .0) (n .1)
-within Quotient r p u e =
+within Quotient r p u b e =
     let n = rounded r p u in
     by-quotient (slope r) (rest r p) (rootAt r p) (32 * radicand r p) (omega arith) (omega arith) (slope-small r p u) (n .0) (n .1)
 
 pub within-one : (r : Row) (p : ℕ) → Usable r p → WithinOne (r .method) r p
 unfolding rootAt
-within-one r p u = within (r .method) r p u refl
+within-one r p u = within (r .method) r p u (u .columns .b-used) refl

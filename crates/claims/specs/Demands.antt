@@ -19,12 +19,18 @@ slope r = r .b *ℤ pos (r .kx)
 abbrev pub rest : Row → ℕ → ℤ
 rest r p = pos (2 * M * halfWidth r p) -ℤ r .a *ℤ pos (r .kx * M)
 
--- W differs by less than 1 from KX (a M + b q) / (2 M) with the exact root of 1024 s, or the exact quotient 32 s / N,
--- in the place of q. Times 2 M: KX b q is less than 2 M away from 2 M W - KX a M. The quotient's side is times N too
+-- W differs by less than 1 from KX (a M + b q) / (2 M) with the exact root of 1024 s in the place of q, or the exact
+-- quotient 32 s / N. Times 2 M: KX b q is less than 2 M away from 2 M W - KX a M. The quotient's side is times N too
+abbrev pub ByRoot : Row → ℕ → Type 0
+ByRoot r p = NearRoot (slope r) (1024 * radicand r p) (rest r p) (2 * M)
+
+abbrev pub ByQuotient : Row → ℕ → Type 0
+ByQuotient r p = natAbs (rest r p *ℤ pos N -ℤ slope r *ℤ pos (32 * radicand r p)) < 2 * M * N
+
 abbrev pub WithinOne : Method → Row → ℕ → Type 0
-WithinOne Unused r p = natAbs (rest r p) < 2 * M
-WithinOne Root r p = NearRoot (slope r) (1024 * radicand r p) (rest r p) (2 * M)
-WithinOne Quotient r p = natAbs (rest r p *ℤ pos N -ℤ slope r *ℤ pos (32 * radicand r p)) < 2 * M * N
+WithinOne Unused r p = ByRoot r p
+WithinOne Root r p = ByRoot r p
+WithinOne Quotient r p = ByQuotient r p
 
 -- what is claimed of a row at a latitude of size p
 pub record Parallel (r : Row) (p : ℕ) : Type 0 where

@@ -17,7 +17,7 @@ use Rattle.projection.specs.Angle.{N, H, M}
 use Rattle.projection.specs.Table.{rows, noRow, rowOf}
 use Rattle.projection.specs.Parallel.{combined, radicand, rootBy, rootAt, numerator}
 use Rattle.projection.specs.Refusal.{isKind}
-use Rattle.projection.specs.Columns.{Columns, rootAtEquator, rootAtPole, most}
+use Rattle.projection.specs.Columns.{Columns, idle, rootAtEquator, rootAtPole, most}
 use Rattle.projection.proofs.Every.{Claim, lt, le, tests, Holds, holds, every, every-at}
 
 -- the claim `NotBelow`
@@ -27,7 +27,8 @@ below x u y v = le (minus x * u + minus y * v) (plus x * u + plus y * v)
 -- the fields of `Columns`
 claims : Row → List Claim
 claims r =
-    lt N (r .ky)
+    le (idle (r .method) (r .b)) 0
+    ∷ lt N (r .ky)
     ∷ lt (r .ky) (5 * N)
     ∷ lt (natAbs (r .a)) 16
     ∷ lt (natAbs (r .b)) 16
@@ -44,17 +45,18 @@ columns-of : (r : Row) → Holds (claims r) → Columns r
 unfolding claims
 columns-of r h =
     record {
-      ky-low = h .0;
-      ky-high = h .1 .0;
-      a-small = h .1 .1 .0;
-      b-small = h .1 .1 .1 .0;
-      e-small = h .1 .1 .1 .1 .0;
-      kx-fine = h .1 .1 .1 .1 .1 .0;
-      radicand-whole = h .1 .1 .1 .1 .1 .1 .0;
-      radicand-small = h .1 .1 .1 .1 .1 .1 .1 .0;
-      equator-whole = h .1 .1 .1 .1 .1 .1 .1 .1 .0;
-      pole-whole = h .1 .1 .1 .1 .1 .1 .1 .1 .1 .0;
-      width-small = h .1 .1 .1 .1 .1 .1 .1 .1 .1 .1 .0;
+      b-used = h .0;
+      ky-low = h .1 .0;
+      ky-high = h .1 .1 .0;
+      a-small = h .1 .1 .1 .0;
+      b-small = h .1 .1 .1 .1 .0;
+      e-small = h .1 .1 .1 .1 .1 .0;
+      kx-fine = h .1 .1 .1 .1 .1 .1 .0;
+      radicand-whole = h .1 .1 .1 .1 .1 .1 .1 .0;
+      radicand-small = h .1 .1 .1 .1 .1 .1 .1 .1 .0;
+      equator-whole = h .1 .1 .1 .1 .1 .1 .1 .1 .1 .0;
+      pole-whole = h .1 .1 .1 .1 .1 .1 .1 .1 .1 .1 .0;
+      width-small = h .1 .1 .1 .1 .1 .1 .1 .1 .1 .1 .1 .0;
     }
 
 passes : Row → Bool

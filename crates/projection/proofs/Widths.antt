@@ -1,23 +1,23 @@
 -- What holds of s, q, a M + b q and W at every latitude size up to H, from the row's columns.
-use mathlib.Core.Path.{_≡_, refl, sym, ap, _∙_}
+use mathlib.Core.Path.{_≡_, ap, _∙_}
 use mathlib.Core.Logic.{_⊎_, inl, inr}
-use Prim.Native.Nat.{ℕ, zero, suc, _+_, _*_, _-_, _/_, _^_, _≤_, _<_}
+use Prim.Native.Nat.{ℕ, suc, _+_, _*_, _-_, _^_, _≤_, _<_}
 use native.Mathlib.Nat.{add-mul, mul-le-mul-left, le-refl, le-of-lt, lt-of-not-le}
 use native.Mathlib.Decide.{decLe}
 use native.Mathlib.Omega.{arith}
-use lib.IntN.{ℤ, pos, negsuc, natAbs, _+ℤ_, _*ℤ_}
+use lib.IntN.{ℤ, pos, negsuc, _+ℤ_, _*ℤ_}
 use Rattle.whole.specs.Nearest.{Near}
-use Rattle.whole.specs.Root.{IsRoot, root}
+use Rattle.whole.specs.Root.{root}
 use Rattle.whole.specs.Signed.{plus, minus}
 use Rattle.whole.proofs.Rounding.{near}
 use Rattle.whole.proofs.Squares.{square-mono, square-lt, root-is, root-mono}
-use Rattle.whole.proofs.Signs.{Parts, parts, sum, plus-mul, minus-mul, natAbs-whole}
+use Rattle.whole.proofs.Signs.{parts, sum, plus-mul, minus-mul, natAbs-whole}
 use Rattle.projection.specs.declared.table.Row.{Row}
 use Rattle.projection.specs.declared.table.Method.{Method}
 use Rattle.projection.specs.declared.table.Method.the-variants.{Unused, Root, Quotient}
 use Rattle.projection.specs.Angle.{N, H, M}
 use Rattle.projection.specs.Parallel.{combined, radicand, rootBy, rootAt, numerator, halfWidth}
-use Rattle.projection.specs.Columns.{NotBelow, Columns, Usable, rootAtEquator, rootAtPole, most}
+use Rattle.projection.specs.Columns.{NotBelow, Usable, rootAtEquator, rootAtPole, most}
 
 -- x is a or b, or lies between them
 Between : ℕ → ℕ → ℕ → Type 0

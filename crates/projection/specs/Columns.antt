@@ -3,6 +3,8 @@ use Prim.Native.Nat.{ℕ, _+_, _*_, _^_, _≤_, _<_, max}
 use lib.IntN.{ℤ, pos, natAbs}
 use Rattle.whole.specs.Signed.{plus, minus}
 use Rattle.projection.specs.declared.table.Row.{Row}
+use Rattle.projection.specs.declared.table.Method.{Method}
+use Rattle.projection.specs.declared.table.Method.the-variants.{Unused, Root, Quotient}
 use Rattle.projection.specs.Angle.{N, H, M}
 use Rattle.projection.specs.Parallel.{radicand, rootBy, rootAt, numerator}
 
@@ -29,9 +31,16 @@ rootAtPole r = rootAt r H
 unfoldable pub most : Row → ℕ
 most r = max (numerator r (rootAtEquator r)) (numerator r (rootAtPole r))
 
--- N < KY < 5 N; sizes that keep every sum and product inside 64 bits; and, at the ends of a meridian, that s and
+-- the size of b where q is not used
+abbrev pub idle : Method → ℤ → ℕ
+idle Unused b = natAbs b
+idle Root b = 0
+idle Quotient b = 0
+
+-- b is 0 where q is not used; N < KY < 5 N; sizes that keep every sum and product inside 64 bits; and, at the ends of a meridian, that s and
 -- a M + b q are not below 0 and that W is less than 5 N
 pub record Columns (r : Row) : Type 0 where
+  pub b-used : idle (r .method) (r .b) ≤ 0
   pub ky-low : N < r .ky
   pub ky-high : r .ky < 5 * N
   pub a-small : natAbs (r .a) < 16

@@ -1,5 +1,5 @@
 -- The law of `nearest`. Nothing else opens its definition, so that the decision for halves is proved here alone.
-use mathlib.Core.Path.{_≡_, refl, ap}
+use mathlib.Core.Path.{_≡_, refl}
 use mathlib.Core.Bool.{Bool, true, false, cond}
 use Prim.Native.Nat.{ℕ, zero, suc, _+_, _*_, _/_, _%_, _≤_, _<_}
 use native.Mathlib.Nat.{div-add-mod', mod-lt, mul-add, mul-comm, mul-add-div, div-eq-of-lt, mul-add-mod-self-left, mod-eq-of-lt, le-refl, le-antisymm}

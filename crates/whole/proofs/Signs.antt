@@ -1,5 +1,5 @@
 -- Signed numbers by their positive and negative parts, so that a linear fact of ℤ is one of ℕ.
-use mathlib.Core.Path.{_≡_, refl, sym, ap, _∙_}
+use mathlib.Core.Path.{_≡_, refl, sym, _∙_}
 use mathlib.Core.Bool.{Bool, true, false, cond}
 use Prim.Native.Nat.{ℕ, zero, suc, _+_, _-_, _*_, _≤_, _<_, _^_, min}
 use native.Mathlib.Nat.{zero-mul, le-refl, lt-of-le-of-lt}
@@ -12,7 +12,6 @@ use mir.Syntax.{Width}
 use mir.Val.{SFits, hbits, toZ, ofZ}
 use mir.Facts.{toZ-ofZ}
 use Rattle.whole.specs.Nearest.{nearest}
-use Rattle.whole.specs.declared.Signed.{Signed}
 use Rattle.whole.specs.Signed.{splitOf, joinOf, plus, minus, nearestSigned}
 use Rattle.whole.proofs.Rounding.{nearest-zero}
 

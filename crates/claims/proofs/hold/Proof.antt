@@ -1,5 +1,5 @@
 -- `claims::hold` meets its contract: each claim, by its law.
-use mathlib.Core.Path.{_≡_, refl}
+use mathlib.Core.Path.{refl}
 use Prim.Native.Nat.{ℕ, _*_}
 use lib.IntN.{pos}
 use Rattle.whole.specs.Nearest.{nearest, carry}
@@ -7,10 +7,9 @@ use Rattle.whole.specs.Root.{root, rootIn}
 use Rattle.whole.proofs.Rounding.{near, half}
 use Rattle.whole.proofs.Squares.{root-is}
 use Rattle.projection.specs.declared.table.Row.{Row}
-use Rattle.projection.specs.Angle.{N, H, M}
+use Rattle.projection.specs.Angle.{N, M}
 use Rattle.projection.specs.Table.{rows, rowOf}
 use Rattle.projection.specs.Parallel.{combined, radicand, rootBy, rootAt, numerator, halfWidth, height}
-use Rattle.projection.specs.Refusal.{isKind}
 use Rattle.projection.specs.Columns.{Usable}
 use Rattle.projection.proofs.Rows.{columns}
 use Rattle.projection.proofs.Widths.{combined-whole, radicand-whole, numerator-whole, width-small}

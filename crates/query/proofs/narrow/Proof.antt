@@ -1,6 +1,5 @@
 -- `query::narrow` is safe: a size below 2 ^ 31 fits 32 bits with either sign.
 use Prim.Native.Nat.{_<_, _^_}
-use native.Mathlib.Omega.{arith}
 use borrow.Author.Needs.{needs}
 use lib.IntN.{pos, negℤ, +ℤ-idl}
 use mir.Syntax.{w32}

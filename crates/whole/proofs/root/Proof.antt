@@ -5,7 +5,6 @@ use native.Mathlib.Nat.{pow-succ', mod-eq-of-lt, one-mul}
 use native.Mathlib.Numerals.{add-one}
 use native.Mathlib.Omega.{arith}
 use lib.Pow.{pow-pos}
-use Rattle.whole.specs.Root.{IsRoot, root}
 use Rattle.whole.proofs.Squares.{square-mono, root-is, root-unique}
 use Rattle.whole.proofs.root.Statement.{statement}
 use Rattle.whole.proofs.root.Tie as tie

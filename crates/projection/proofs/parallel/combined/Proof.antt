@@ -1,16 +1,16 @@
 -- `projection::parallel::combined` meets its contract: its four products are those of the parts of x and y.
 use mathlib.Core.Path.{_≡_, ap, _∙_}
-use Prim.Native.Nat.{ℕ, _+_, _*_, _-_, _^_, _≤_, _<_}
+use Prim.Native.Nat.{ℕ, _*_, _^_, _≤_, _<_}
 use native.Mathlib.Nat.{mul-le-mul-right}
 use native.Mathlib.Omega.{arith}
 use borrow.Author.Needs.{needs}
-use lib.IntN.{ℤ, natAbs}
+use lib.IntN.{ℤ}
 use mir.Syntax.{w32}
 use mir.Val.{SFits, toZ, ofZ}
 use mir.Facts.{toZ-ofZ}
 use Rattle.whole.specs.declared.Signed.{Signed}
 use Rattle.whole.specs.Signed.{splitOf, joinOf, plus, minus}
-use Rattle.whole.proofs.Signs.{Parts, parts, join-split}
+use Rattle.whole.proofs.Signs.{parts, join-split}
 use Rattle.projection.specs.Columns.{Combines}
 use Rattle.projection.proofs.Widths.{combined-is}
 use Rattle.projection.proofs.parallel.combined.Statement.{statement}

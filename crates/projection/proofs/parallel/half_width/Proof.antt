@@ -1,23 +1,18 @@
 -- `projection::parallel::half_width` meets its contract: its tests are the conditions of the refusals, in their order.
-use mathlib.Core.Path.{_≡_, refl, sym, ap, subst, _∙_}
+use mathlib.Core.Path.{_≡_, refl, sym, ap, _∙_}
 use mathlib.Core.Bool.{Bool, true, false, not}
-use Prim.Native.Nat.{ℕ, _≤_}
-use native.Mathlib.Omega.{arith}
+use Prim.Native.Nat.{_≤_}
 use borrow.Author.Needs.{needs}
 use borrow.Author.Tests.{ltb-false}
-use lib.Dec.{T}
-use lib.IntN.{ℤ, natAbs}
+use lib.IntN.{natAbs}
 use mir.Syntax.{w32}
 use mir.Val.{toZ, ofZ}
 use mir.Facts.{toZ-ofZ}
 use Rattle.whole.specs.declared.Signed.{Signed}
-use Rattle.whole.specs.Signed.{splitOf}
 use Rattle.whole.proofs.Signs.{split-size}
 use Rattle.projection.specs.Angle.{H}
-use Rattle.projection.specs.Table.{rowOf}
-use Rattle.projection.specs.Refusal.{isKind, outside, unless, given}
+use Rattle.projection.specs.Refusal.{isKind, outside, unless}
 use Rattle.projection.specs.Answer.{widthOf}
-use Rattle.projection.specs.Columns.{Usable}
 use Rattle.projection.proofs.Rows.{columns}
 use Rattle.projection.proofs.parallel.half_width.Statement.{statement}
 use Rattle.projection.proofs.parallel.half_width.Tie as tie

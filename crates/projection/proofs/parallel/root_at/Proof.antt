@@ -1,10 +1,7 @@
 -- `projection::parallel::root_at` meets its contract, a return for each method.
-use mathlib.Core.Path.{_≡_, ap, _∙_}
-use Prim.Native.Nat.{ℕ, _*_, _/_}
 use native.Mathlib.Omega.{arith}
 use borrow.Author.Needs.{needs}
 use Rattle.whole.specs.Root.{root}
-use Rattle.projection.specs.Angle.{N}
 use Rattle.projection.specs.Parallel.{radicand, rootBy, rootAt}
 use Rattle.projection.proofs.Widths.{radicand-small}
 use Rattle.projection.proofs.parallel.root_at.Statement.{statement}

@@ -1,6 +1,6 @@
 -- `projection::table::is_kind` meets its contract.
 use native.Mathlib.Omega.{arith}
-use borrow.Author.Tests.{le-leb, lt-leb}
+use borrow.Author.Tests.{le-leb}
 use Rattle.projection.specs.Table.{rows}
 use Rattle.projection.specs.Refusal.{isKind}
 use Rattle.projection.proofs.table.is_kind.Statement.{statement}

@@ -1,7 +1,7 @@
 -- `whole::Signed::split` meets its contract: each of its two ways is a case of ℤ.
 use mathlib.Core.Path.{_≡_, refl, ap}
 use mathlib.Core.Bool.{true, false}
-use Prim.Native.Nat.{ℕ, suc, _+_, _-_, _<_, _^_}
+use Prim.Native.Nat.{ℕ, suc, _+_, _<_, _^_}
 use native.Mathlib.Nat.{not-suc-le-zero}
 use native.Mathlib.Numerals.{add-one}
 use native.Mathlib.Omega.{arith}
@@ -11,7 +11,6 @@ use lib.Signed.{ltZ}
 use mir.Syntax.{w32}
 use mir.Val.{SFits, toZ, ofZ}
 use mir.Facts.{toZ-ofZ, toZ-pos}
-use Rattle.whole.specs.declared.Signed.{Signed}
 use Rattle.whole.specs.Signed.{splitOf}
 use Rattle.whole.proofs.Signed.split.Statement.{statement}
 use Rattle.whole.proofs.Signed.split.Tie as tie
