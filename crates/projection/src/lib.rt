@@ -7,5 +7,3 @@ mod table;
 pub use angle::Angle;
 pub use parallel::Width;
 pub use parallel::half_width;
-pub use table::Method;
-pub use table::Row;

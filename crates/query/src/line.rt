@@ -1,9 +1,15 @@
-// A line of the input, read a byte at a time: a letter, then whole numbers in decimal, each after a space.
+// A line of the input, read a byte at a time: a letter, then whole numbers in decimal with spaces between them.
 use whole::Signed;
+
+// The letter of a line that has no byte yet: no line holds it.
+pub const NONE: u8 = b'\n';
+
+// A size from here up is not read on: no answer goes so far, and it is refused by the same number.
+const ENOUGH: u32 = 400_000_000;
 
 pub struct Line {
     pub letter: u8,
-    pub values: [Signed; 4],
+    pub values: [Signed; 2],
     pub count: usize,
     // The number that is being read.
     pub size: u32,
@@ -16,8 +22,8 @@ pub struct Line {
 impl Line {
     pub fn new() -> Line {
         Line {
-            letter: 0,
-            values: [Signed::split(0); 4],
+            letter: NONE,
+            values: [Signed::split(0); 2],
             count: 0,
             size: 0,
             digits: false,
@@ -28,7 +34,7 @@ impl Line {
 
     // The line with one byte more.
     pub fn with_byte(mut self, byte: u8) -> Line {
-        if self.letter == 0 {
+        if self.letter == NONE {
             self.letter = byte;
             return self;
         }
@@ -56,7 +62,7 @@ impl Line {
             return self;
         }
         let at = self.count;
-        if at >= 4 {
+        if at >= 2 {
             self.good = false;
             return self;
         }
@@ -72,9 +78,9 @@ impl Line {
     }
 }
 
-// The size with a decimal digit more; one too large for an answer stays as it is, and is refused by the same number.
+// The size with a decimal digit more.
 fn grown(size: u32, digit: u8) -> u32 {
-    if size < 400000000 {
+    if size < ENOUGH {
         size * 10 + digit as u32
     } else {
         size

@@ -3,9 +3,11 @@
 mod line;
 
 ghost use Prim.Native.Nat.{_<_};
+use libc::STDERR_FILENO;
 use libc::STDIN_FILENO;
 use libc::STDOUT_FILENO;
 use line::Line;
+use line::NONE;
 use projection::Width;
 use projection::half_width;
 use whole::Signed;
@@ -15,11 +17,15 @@ fn main() {
     let mut line = Line::new();
     let mut turns = u64::MAX;
     while 0 < turns {
-        let n = io::count(libc::read(STDIN_FILENO, &mut space), &space);
+        let got = libc::read(STDIN_FILENO, &mut space);
+        if got < 0 {
+            io::write_all(STDERR_FILENO, b"query: standard input cannot be read\n");
+        }
+        let n = io::count(got, &space);
         line = answer_all(line, &space[..n]);
         turns = if n == 0 { 0 } else { turns - 1 };
     }
-    if line.letter != 0 {
+    if line.letter != NONE {
         answer(line.with_end());
     }
 }

@@ -12,7 +12,11 @@ pub enum Answer {
 /// The whole number nearest to n / d, halves away from zero.
 fn nearest(n: i128, d: i128) -> i128 {
     let up = (2 * n.abs() + d) / (2 * d);
-    if n < 0 { -up } else { up }
+    if n < 0 {
+        -up
+    } else {
+        up
+    }
 }
 
 /// The floor of the square root, from the float's guess.
@@ -30,7 +34,11 @@ fn floor_root(n: i128) -> i128 {
 fn row_width(row: &Row, p: i128) -> i128 {
     let m = 32 * HALF_TURN;
     let s = HALF_TURN * HALF_TURN + row.e * p * p;
-    let q = if row.quotient { 32 * s / HALF_TURN } else { floor_root(1024 * s) };
+    let q = if row.quotient {
+        32 * s / HALF_TURN
+    } else {
+        floor_root(1024 * s)
+    };
     nearest(row.kx * (row.a * m + row.b * q), 2 * m)
 }
 

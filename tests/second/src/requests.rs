@@ -10,7 +10,9 @@ pub fn all() -> String {
             lines.push(width(kind, degrees * DEGREE));
         }
     }
-    for kind in [0, 1, 2, 9, 10, 11, 127, 128, 255, 256, 257, 266, -1, -256, 4294967297] {
+    for kind in [
+        0, 1, 2, 9, 10, 11, 127, 128, 255, 256, 257, 266, -1, -256, 4294967297,
+    ] {
         for latitude in edges() {
             lines.push(width(kind, latitude));
         }
@@ -31,13 +33,38 @@ fn width(kind: i128, latitude: i128) -> String {
 }
 
 fn edges() -> Vec<i128> {
-    let sizes = [0, 1, 2, RIGHT_ANGLE - 1, RIGHT_ANGLE, RIGHT_ANGLE + 1, 2147483647, 2147483648, 4294967296 + 5, 1 << 80];
+    let sizes = [
+        0,
+        1,
+        2,
+        RIGHT_ANGLE - 1,
+        RIGHT_ANGLE,
+        RIGHT_ANGLE + 1,
+        2147483647,
+        2147483648,
+        4294967296 + 5,
+        1 << 80,
+    ];
     sizes.iter().flat_map(|size| [*size, -size]).collect()
 }
 
 /// Lines with something missing, too much or out of place; spaces may be left out or doubled.
-const ODD: [&str; 14] = [
-    "", "w", "w 1", "w 1 2 3", "w 1 2 3 4 5", "x 1 2", "w1 2", "w 1 2a", "w 1 +2", "w - 1", "w 1 --2", "w 1 2-", "w 1  2 ", "ww 1 2",
+const ODD: [&str; 15] = [
+    "",
+    "w",
+    "w 1",
+    "w 1 2 3",
+    "w 1 2 3 4 5",
+    "x 1 2",
+    "w1 2",
+    "w 1 2a",
+    "w 1 +2",
+    "w - 1",
+    "w 1 --2",
+    "w 1 2-",
+    "w 1  2 ",
+    "ww 1 2",
+    "\0w 1 2",
 ];
 
 /// A step of xorshift.

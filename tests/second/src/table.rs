@@ -14,11 +14,20 @@ fn scaled(factor: f64) -> i128 {
 }
 
 fn row(cx: f64, a: i128, b: i128, e: i128) -> Row {
-    Row { kx: scaled(cx), a, b, e, quotient: false }
+    Row {
+        kx: scaled(cx),
+        a,
+        b,
+        e,
+        quotient: false,
+    }
 }
 
 fn straight(row: Row) -> Row {
-    Row { quotient: true, ..row }
+    Row {
+        quotient: true,
+        ..row
+    }
 }
 
 /// The row of a kind from 1 to 10.

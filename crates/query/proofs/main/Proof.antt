@@ -6,10 +6,10 @@ use Rattle.query.proofs.main.Statement.{statement}
 use Rattle.query.proofs.main.Tie as tie
 
 abbrev Inv-loop : tie.InvT-loop
-Inv-loop space₀ line₀ turns₀ space line turns = 65536 ≡ length space
+Inv-loop space₀ line₀ turns₀ t6 space line turns = 65536 ≡ length space
 
 abbrev μ-loop : tie.MeasureT-loop
-μ-loop space₀ line₀ turns₀ space line turns = turns
+μ-loop space₀ line₀ turns₀ t6 space line turns = turns
 
 large-buffer-requires : tie.Need-large-buffer-requires Inv-loop μ-loop
 large-buffer-requires c κs = search needs
@@ -25,6 +25,12 @@ slice-aggregate-read c = search needs
 
 read-requires : tie.Need-read-requires Inv-loop μ-loop
 read-requires c κs = search needs
+
+slice-aggregate-write-all : tie.Need-slice-aggregate-write-all Inv-loop μ-loop
+slice-aggregate-write-all c = search needs
+
+write-all-requires : tie.Need-write-all-requires Inv-loop μ-loop
+write-all-requires c κs = search needs
 
 slice-aggregate-count : tie.Need-slice-aggregate-count Inv-loop μ-loop
 slice-aggregate-count c = search needs
@@ -79,6 +85,8 @@ main-spec =
     loop-holds
     slice-aggregate-read
     read-requires
+    slice-aggregate-write-all
+    write-all-requires
     slice-aggregate-count
     count-requires
     array-share-prefix-space
