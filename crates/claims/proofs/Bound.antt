@@ -13,7 +13,7 @@ use Rattle.projection.specs.declared.table.Method.{Method}
 use Rattle.projection.specs.declared.table.Method.the-variants.{Unused, Root, Quotient}
 use Rattle.projection.specs.Angle.{N, M}
 use Rattle.projection.specs.Parallel.{radicand, rootBy, rootAt, numerator, halfWidth}
-use Rattle.projection.specs.Columns.{Usable, idle}
+use Rattle.projection.specs.Columns.{combined, Usable, idle}
 use Rattle.projection.proofs.Widths.{combined-is, numerator-whole, width-near}
 use Rattle.claims.specs.ExactRoot.{NearRoot}
 use Rattle.claims.specs.Demands.{slope, rest, WithinOne}
@@ -25,7 +25,7 @@ regroup x a b q = omega (arith, mul-add x (a * M) (b * q), mul-left-comm x a M, 
 
 -- by the rounding alone, 2 M W - KX a M is at most M away from KX b q
 rounded : (r : Row) (p : ℕ) → Usable r p → AtMost (rest r p) (slope r) (rootAt r p) M × AtLeast (rest r p) (slope r) (rootAt r p) M
-unfolding numerator
+unfolding numerator combined
 rounded r p u =
     let x = r .kx in
     let q = rootAt r p in

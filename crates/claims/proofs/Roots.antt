@@ -45,15 +45,8 @@ near-root y g s q m r h k l = (
 )
 
 -- ---- where s is a square, the order is that of ℤ
-squares : (a b c : ℕ) → (a * a < b * b * (c * c)) ↔ (a < b * c)
-squares a b c =
-    let e = mul-mul-mul-comm b c b c in
-    (λ h. square-lt a (b * c) (rw e h), λ h. rw (← e) (square-mono-lt h))
-
-squares-above : (a b c : ℕ) → (b * b * (c * c) < a * a) ↔ (b * c < a)
-squares-above a b c =
-    let e = mul-mul-mul-comm b c b c in
-    (λ h. square-lt (b * c) a (rw e h), λ h. rw (← e) (square-mono-lt h))
+squares : (a b : ℕ) → (a * a < b * b) ↔ (a < b)
+squares a b = (square-lt a b, square-mono-lt)
 
 not-negative : (u k : ℕ) → pos u <ℤ negℤ (pos k) → ⊥
 not-negative u zero h = omega (arith, ltb→lt u 0 (h .lt))
@@ -65,11 +58,11 @@ negative u (suc k) = (λ h. record { lt = lt→ltb k u (omega arith) }, λ h. om
 
 pub exact : (u y : ℤ) (r : ℕ) → BelowRoot u y (r * r) ↔ (u <ℤ (y *ℤ pos r))
 exact (pos u) (pos y) r =
-    let e = squares u y r in
-    (λ h. record { lt = lt→ltb u (y * r) (e .0 h) }, λ h. e .1 (ltb→lt u (y * r) (h .lt)))
+    let e = squares u (y * r) in
+    rw (mul-mul-mul-comm y y r r) (λ h. record { lt = lt→ltb u (y * r) (e .0 h) }, λ h. e .1 (ltb→lt u (y * r) (h .lt)))
 exact (negsuc u) (pos y) r = (λ h. record { lt = tt }, λ h. tt)
 exact (pos u) (negsuc y) r = (λ h. absurd h, λ h. not-negative u (suc y * r) h)
 exact (negsuc u) (negsuc y) r =
-    let e = squares-above (suc u) (suc y) r in
+    let e = squares (suc y * r) (suc u) in
     let f = negative u (suc y * r) in
-    (λ h. f .0 (e .0 h), λ h. e .1 (f .1 h))
+    rw (mul-mul-mul-comm (suc y) (suc y) r r) (λ h. f .0 (e .0 h), λ h. e .1 (f .1 h))

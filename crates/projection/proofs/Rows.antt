@@ -15,7 +15,7 @@ use Rattle.whole.proofs.Signs.{back}
 use Rattle.projection.specs.declared.table.Row.{Row}
 use Rattle.projection.specs.Angle.{N, H, M}
 use Rattle.projection.specs.Table.{rows, noRow, rowOf}
-use Rattle.projection.specs.Parallel.{combined, radicand, rootBy, rootAt, numerator}
+use Rattle.projection.specs.Parallel.{radicand, rootBy, rootAt, numerator}
 use Rattle.projection.specs.Refusal.{isKind}
 use Rattle.projection.specs.Columns.{Columns, idle, rootAtEquator, rootAtPole, most}
 use Rattle.projection.proofs.Every.{Claim, lt, le, tests, Holds, holds, every, every-at}
@@ -63,7 +63,7 @@ passes : Row → Bool
 passes r = tests (claims r)
 
 all-pass : T (every passes rows)
-unfolding passes claims rows rootAtEquator rootAtPole most numerator rootAt radicand combined rootBy root rootIn
+unfolding passes claims rows rootAtEquator rootAtPole most numerator rootAt radicand rootBy root rootIn
 all-pass = tt
 
 conj : (a b : Bool) → T (cond a b false) → T a × T b

@@ -16,8 +16,8 @@ use Rattle.projection.specs.declared.table.Row.{Row}
 use Rattle.projection.specs.declared.table.Method.{Method}
 use Rattle.projection.specs.declared.table.Method.the-variants.{Unused, Root, Quotient}
 use Rattle.projection.specs.Angle.{N, H, M}
-use Rattle.projection.specs.Parallel.{combined, radicand, rootBy, rootAt, numerator, halfWidth}
-use Rattle.projection.specs.Columns.{NotBelow, Usable, rootAtEquator, rootAtPole, most}
+use Rattle.projection.specs.Parallel.{radicand, rootBy, rootAt, numerator, halfWidth}
+use Rattle.projection.specs.Columns.{combined, NotBelow, Usable, rootAtEquator, rootAtPole, most}
 
 -- x is a or b, or lies between them
 Between : ℕ → ℕ → ℕ → Type 0
@@ -96,7 +96,7 @@ module _ (r : Row) (p : ℕ) (u : Usable r p) where
       (u .columns .radicand-whole)
 
   radicand-between : Between (N * N) (radicand r p) (radicand r H)
-  unfolding radicand
+  unfolding radicand combined
   radicand-between =
       let s = combined-is (pos 1) (N * N) (r .e) (p * p) radicand-whole in
       let t = combined-is (pos 1) (N * N) (r .e) (H * H) (u .columns .radicand-whole) in
@@ -124,7 +124,7 @@ module _ (r : Row) (p : ℕ) (u : Usable r p) where
       root-between (u .columns .equator-whole) (u .columns .pole-whole)
 
   numerator-most : numerator r (rootAt r p) ≤ most r
-  unfolding most numerator
+  unfolding most numerator combined
   numerator-most =
       let c = u .columns in
       let q = combined-is (r .a) M (r .b) (rootAt r p) numerator-whole in

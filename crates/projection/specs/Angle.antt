@@ -1,5 +1,8 @@
 -- The numbers of the angle's unit, the hundredth of an arcsecond ("centisecond" of document 01): N, H and M.
+use mathlib.Core.Bool.{Bool}
 use Prim.Native.Nat.{ℕ, _*_, _/_}
+use lib.Dec.{ltb}
+use lib.IntN.{ℤ, natAbs}
 
 -- 180 degrees
 abbrev pub N : ℕ
@@ -12,3 +15,7 @@ H = N / 2
 -- 32 times 180 degrees
 abbrev pub M : ℕ
 M = 32 * N
+
+-- farther from 0 than n, either way
+abbrev pub outside : ℕ → ℤ → Bool
+outside n z = ltb n (natAbs z)

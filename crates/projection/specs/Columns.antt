@@ -1,12 +1,16 @@
 -- What the rows of the table have in common.
 use Prim.Native.Nat.{ℕ, _+_, _*_, _^_, _≤_, _<_, max}
-use lib.IntN.{ℤ, pos, natAbs}
+use lib.IntN.{ℤ, pos, natAbs, _+ℤ_, _*ℤ_}
 use Rattle.whole.specs.Signed.{plus, minus}
 use Rattle.projection.specs.declared.table.Row.{Row}
 use Rattle.projection.specs.declared.table.Method.{Method}
 use Rattle.projection.specs.declared.table.Method.the-variants.{Unused, Root, Quotient}
 use Rattle.projection.specs.Angle.{N, H, M}
 use Rattle.projection.specs.Parallel.{radicand, rootBy, rootAt, numerator}
+
+-- x u + y v, for signed x and y: s and a M + b q are such sums
+unfoldable pub combined : ℤ → ℕ → ℤ → ℕ → ℕ
+combined x u y v = natAbs (x *ℤ pos u +ℤ y *ℤ pos v)
 
 -- x u + y v is not below 0
 abbrev pub NotBelow : ℤ → ℕ → ℤ → ℕ → Type 0
@@ -37,8 +41,8 @@ idle Unused b = natAbs b
 idle Root b = 0
 idle Quotient b = 0
 
--- b is 0 where q is not used; N < KY < 5 N; sizes that keep every sum and product inside 64 bits; and, at the ends of a meridian, that s and
--- a M + b q are not below 0 and that W is less than 5 N
+-- b is 0 where q is not used; N < KY < 5 N; sizes that keep every sum and product inside 64 bits; and, at the ends of a
+-- meridian, s and a M + b q are not below 0 and W is less than 5 N
 pub record Columns (r : Row) : Type 0 where
   pub b-used : idle (r .method) (r .b) ≤ 0
   pub ky-low : N < r .ky

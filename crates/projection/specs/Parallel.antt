@@ -1,6 +1,6 @@
 -- A parallel of a row at a latitude of size p: its half-width W, and how far it lies from the Equator on the map.
 use Prim.Native.Nat.{ℕ, _*_, _/_}
-use lib.IntN.{ℤ, pos, natAbs, _+ℤ_, _*ℤ_}
+use lib.IntN.{pos, natAbs, _+ℤ_, _*ℤ_}
 use Rattle.whole.specs.Nearest.{nearest}
 use Rattle.whole.specs.Root.{root}
 use Rattle.projection.specs.declared.table.Row.{Row}
@@ -8,13 +8,9 @@ use Rattle.projection.specs.declared.table.Method.{Method}
 use Rattle.projection.specs.declared.table.Method.the-variants.{Unused, Root, Quotient}
 use Rattle.projection.specs.Angle.{N, M}
 
--- x u + y v, for signed x and y: used where it is not below 0
-unfoldable pub combined : ℤ → ℕ → ℤ → ℕ → ℕ
-combined x u y v = natAbs (x *ℤ pos u +ℤ y *ℤ pos v)
-
--- s: N squared plus e times p squared
+-- s: N squared plus e times p squared, which no row has below 0
 unfoldable pub radicand : Row → ℕ → ℕ
-radicand r p = combined (pos 1) (N * N) (r .e) (p * p)
+radicand r p = natAbs (pos (N * N) +ℤ r .e *ℤ pos (p * p))
 
 -- q: the floor of the square root of 1024 s, or of 32 s over N; kind 1 does not use it
 unfoldable pub rootBy : Method → ℕ → ℕ
@@ -25,9 +21,9 @@ rootBy Quotient s = 32 * s / N
 unfoldable pub rootAt : Row → ℕ → ℕ
 rootAt r p = rootBy (r .method) (radicand r p)
 
--- a M + b q
+-- a M + b q, which no row has below 0
 unfoldable pub numerator : Row → ℕ → ℕ
-numerator r q = combined (r .a) M (r .b) q
+numerator r q = natAbs (r .a *ℤ pos M +ℤ r .b *ℤ pos q)
 
 -- W: nearest to KX (a M + b q) / (2 M)
 unfoldable pub halfWidth : Row → ℕ → ℕ

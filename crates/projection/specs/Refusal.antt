@@ -2,10 +2,10 @@
 use mathlib.Core.Bool.{Bool, false, not, cond}
 use mathlib.Core.List.{List, [], _∷_}
 use Prim.Native.Nat.{ℕ}
-use lib.Dec.{leb, ltb}
-use lib.IntN.{ℤ, natAbs}
+use lib.Dec.{leb}
+use lib.IntN.{ℤ}
 use lib.ListN.{length}
-use Rattle.projection.specs.Angle.{H}
+use Rattle.projection.specs.Angle.{H, outside}
 use Rattle.projection.specs.Table.{rows}
 
 pub record Refusal : Type 0 where
@@ -25,10 +25,6 @@ unless (r ∷ rs) a = cond (r .applies) (refused (r .number)) (unless rs a)
 -- a kind of the table
 unfoldable pub isKind : ℕ → Bool
 isKind kind = cond (leb 1 kind) (leb kind (length rows)) false
-
--- farther from 0 than n, either way
-abbrev pub outside : ℕ → ℤ → Bool
-outside n z = ltb n (natAbs z)
 
 -- 1: kind is not 1..10
 abbrev pub badKind : ℕ → Refusal

@@ -1,7 +1,7 @@
 // An angle, and the numbers of its unit.
 ghost use mathlib.Core.Path.{_≡_};
-ghost use lib.Dec.{ltb};
-ghost use Rattle.whole.specs.Signed.{splitOf};
+ghost use Rattle.whole.specs.Signed.{splitOf, joinOf};
+ghost use Rattle.projection.specs.Angle.{outside as outsideOf};
 use whole::Signed;
 
 // A longitude or a latitude in whole hundredths of an arcsecond, 360,000 to the degree ("centiseconds" of document 01).
@@ -27,7 +27,7 @@ impl Angle {
 
     // Whether the angle lies farther from 0 than a limit, either way.
     pub fn outside(self, limit: u32) -> bool
-        ensures { λ r. ⌜ r ≡ ltb limit (self .count .size) ⌝ }
+        ensures { λ r. ⌜ r ≡ outsideOf limit (joinOf (self .count)) ⌝ }
     {
         let count = self.count;
         limit < count.size

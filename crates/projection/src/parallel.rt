@@ -1,7 +1,7 @@
 // A parallel of a row: the half-width W of document 01.
 ghost use mathlib.Core.Path.{_≡_};
-ghost use Rattle.projection.specs.Parallel.{combined as combinedOf, radicand as radicandOf, rootAt, numerator as numeratorOf, halfWidth};
-ghost use Rattle.projection.specs.Columns.{Combines, Usable};
+ghost use Rattle.projection.specs.Parallel.{radicand as radicandOf, rootAt, numerator as numeratorOf, halfWidth};
+ghost use Rattle.projection.specs.Columns.{combined as combinedOf, Combines, Usable};
 ghost use Rattle.projection.specs.Answer.{meaning, widthOf};
 use super::angle::Angle;
 use super::table::Method;

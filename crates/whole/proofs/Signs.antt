@@ -6,22 +6,31 @@ use native.Mathlib.Nat.{zero-mul, le-refl, lt-of-le-of-lt}
 use native.Mathlib.Omega.{arith}
 use borrow.Author.Tests.{ltb-true, ltb-false}
 use lib.Dec.{ltb}
-use lib.IntN.{ℤ, pos, negsuc, negℤ, natAbs, subℕ, _+ℤ_, _*ℤ_, negℤ-negℤ}
+use lib.IntN.{ℤ, pos, negsuc, negℤ, natAbs, subℕ, _+ℤ_, _-ℤ_, _*ℤ_, negℤ-negℤ, +ℤ-idl}
 use lib.Signed.{mag}
 use mir.Syntax.{Width}
 use mir.Val.{SFits, hbits, toZ, ofZ}
-use mir.Facts.{toZ-ofZ}
+use mir.Facts.{toZ-ofZ, toZ-pos}
 use Rattle.whole.specs.Nearest.{nearest}
-use Rattle.whole.specs.Signed.{splitOf, joinOf, plus, minus, nearestSigned}
+use Rattle.whole.specs.declared.Signed.{Signed}
+use Rattle.whole.specs.Signed.{splitOf, withSign, joinOf, plus, minus, nearestSigned}
 use Rattle.whole.proofs.Rounding.{nearest-zero}
+
+pub natAbs-neg : (z : ℤ) → natAbs (negℤ z) ≡ natAbs z
+natAbs-neg (pos zero) = refl
+natAbs-neg (pos (suc n)) = refl
+natAbs-neg (negsuc n) = refl
 
 pub join-split : (z : ℤ) → joinOf (splitOf z) ≡ z
 join-split (pos n) = refl
 join-split (negsuc n) = refl
 
-pub split-size : (z : ℤ) → splitOf z .size ≡ natAbs z
-split-size (pos n) = refl
-split-size (negsuc n) = refl
+pub natAbs-join : (s : Signed) → natAbs (joinOf s) ≡ s .size
+natAbs-join s = go (s .negative)
+  where
+    go : (b : Bool) → natAbs (withSign b (s .size)) ≡ s .size
+    go true = natAbs-neg (pos (s .size))
+    go false = refl
 
 -- what a number's parts are
 pub record Parts (z : ℤ) : Type 0 where
@@ -64,11 +73,6 @@ pub minus-mul : (z : ℤ) (k : ℕ) → minus (z *ℤ pos k) ≡ minus z * k
 minus-mul (pos n) k = sym (zero-mul k)
 minus-mul (negsuc n) k = minus-neg (pos (suc n * k))
 
-pub natAbs-neg : (z : ℤ) → natAbs (negℤ z) ≡ natAbs z
-natAbs-neg (pos zero) = refl
-natAbs-neg (pos (suc n)) = refl
-natAbs-neg (negsuc n) = refl
-
 pub natAbs-mul : (z : ℤ) (k : ℕ) → natAbs (z *ℤ pos k) ≡ natAbs z * k
 natAbs-mul (pos n) k = refl
 natAbs-mul (negsuc n) k = natAbs-neg (pos (suc n * k))
@@ -98,3 +102,10 @@ fits w z h = record { sfits = lt-of-le-of-lt (mag-le z) h }
 
 pub back : (w : Width) (z : ℤ) → natAbs z < 2 ^ hbits w → toZ w (ofZ w z) ≡ z
 back w z h = toZ-ofZ (fits w z h)
+
+-- a size of fewer bits than the width, turned
+pub turned : (w : Width) {n : ℕ} → n < 2 ^ hbits w → pos 0 -ℤ toZ w n ≡ negℤ (pos n)
+turned w {n} h = rw (toZ-pos w h) (+ℤ-idl (negℤ (pos n)))
+
+pub turned-fits : (w : Width) {n : ℕ} → n < 2 ^ hbits w → SFits w (negℤ (pos n))
+turned-fits w {n} h = fits w (negℤ (pos n)) (rw (natAbs-neg (pos n)) h)

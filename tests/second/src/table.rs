@@ -1,4 +1,4 @@
-//! The rows, worked out from the sources' factors: KX and KY are the factors times pi times 10^8, to the nearest whole.
+//! The rows, worked out from the sources' factors: KX is the factor of x times pi times 10^8, to the nearest whole.
 use std::f64::consts::PI;
 
 pub struct Row {

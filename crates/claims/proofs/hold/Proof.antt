@@ -9,8 +9,8 @@ use Rattle.whole.proofs.Squares.{root-is}
 use Rattle.projection.specs.declared.table.Row.{Row}
 use Rattle.projection.specs.Angle.{N, M}
 use Rattle.projection.specs.Table.{rows, rowOf}
-use Rattle.projection.specs.Parallel.{combined, radicand, rootBy, rootAt, numerator, halfWidth, height}
-use Rattle.projection.specs.Columns.{Usable}
+use Rattle.projection.specs.Parallel.{radicand, rootBy, rootAt, numerator, halfWidth, height}
+use Rattle.projection.specs.Columns.{combined, Usable}
 use Rattle.projection.proofs.Rows.{columns}
 use Rattle.projection.proofs.Widths.{combined-whole, radicand-whole, numerator-whole, width-small}
 use Rattle.claims.specs.Arithmetic.{Arithmetic}
@@ -22,7 +22,7 @@ use Rattle.claims.proofs.hold.Statement.{statement}
 use Rattle.claims.proofs.hold.Tie as tie
 
 parallel : (r : Row) (p : ℕ) → Usable r p → Parallel r p
-unfolding radicand numerator
+unfolding radicand numerator combined
 parallel r p u =
     record {
       s-whole = combined-whole (pos 1) (N * N) (r .e) (p * p) (radicand-whole r p u);
@@ -37,7 +37,7 @@ demands : Demands
 demands = record { parallels = λ kind p t h. parallel (rowOf kind) p (record { columns = columns kind t; latitude = h }) }
 
 worked : Examples
-unfolding examples rowOf rows halfWidth height numerator rootAt radicand rootBy combined nearest carry root rootIn
+unfolding examples rowOf rows halfWidth height numerator rootAt radicand rootBy nearest carry root rootIn
 worked = refl
 
 arithmetic : Arithmetic

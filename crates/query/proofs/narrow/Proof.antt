@@ -1,10 +1,7 @@
 -- `query::narrow` is safe: a size below 2 ^ 31 fits 32 bits with either sign.
-use Prim.Native.Nat.{_<_, _^_}
 use borrow.Author.Needs.{needs}
-use lib.IntN.{pos, negℤ, +ℤ-idl}
 use mir.Syntax.{w32}
-use mir.Facts.{toZ-pos}
-use Rattle.whole.proofs.Signs.{natAbs-neg, fits}
+use Rattle.whole.proofs.Signs.{turned, turned-fits}
 use Rattle.query.proofs.narrow.Statement.{statement}
 use Rattle.query.proofs.narrow.Tie as tie
 
@@ -15,10 +12,7 @@ cast-size : tie.Need-cast-size
 cast-size c = search needs
 
 sub-result : tie.Need-sub-result
-sub-result c =
-    let n = c .before .least .result in
-    let h : n < 2 ^ 31 = c .before .least .ensures in
-    rw (toZ-pos w32 h, +ℤ-idl (negℤ (pos n))) (fits w32 (negℤ (pos n)) (rw (natAbs-neg (pos n)) h))
+sub-result c = rw (turned w32 (c .before .least .ensures)) (turned-fits w32 (c .before .least .ensures))
 
 returns : tie.Need-returns
 returns c = search needs

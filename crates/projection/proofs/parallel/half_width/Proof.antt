@@ -8,10 +8,10 @@ use lib.IntN.{natAbs}
 use mir.Syntax.{w32}
 use mir.Val.{toZ, ofZ}
 use mir.Facts.{toZ-ofZ}
-use Rattle.whole.specs.declared.Signed.{Signed}
-use Rattle.whole.proofs.Signs.{split-size}
-use Rattle.projection.specs.Angle.{H}
-use Rattle.projection.specs.Refusal.{isKind, outside, unless}
+use Rattle.whole.specs.Signed.{joinOf}
+use Rattle.whole.proofs.Signs.{join-split, natAbs-join}
+use Rattle.projection.specs.Angle.{H, outside}
+use Rattle.projection.specs.Refusal.{isKind, unless}
 use Rattle.projection.specs.Answer.{widthOf}
 use Rattle.projection.proofs.Rows.{columns}
 use Rattle.projection.proofs.parallel.half_width.Statement.{statement}
@@ -25,14 +25,18 @@ no-refusal false e = sym e
 kind-good : (c : tie.Else1) → isKind (c .before .before .args .kind) ≡ true
 kind-good c = sym (c .before .is-kind .ensures) ∙ no-refusal (c .before .is-kind .result) (c .if1 .left)
 
+-- the angle is the latitude
+angle-is : (c : tie.After-new) → joinOf (c .new .result .count) ≡ c .before .before .before .args .latitude
+angle-is c =
+    ap joinOf (c .new .ensures)
+    ∙ join-split (toZ w32 (ofZ w32 (c .before .before .before .args .latitude)))
+    ∙ toZ-ofZ (c .before .before .before .fits .latitude)
+
 size-is : (c : tie.After-new) → c .new .result .count .size ≡ natAbs (c .before .before .before .args .latitude)
-size-is c =
-    ap (λ (s : Signed). s .size) (c .new .ensures)
-    ∙ split-size (toZ w32 (ofZ w32 (c .before .before .before .args .latitude)))
-    ∙ ap natAbs (toZ-ofZ (c .before .before .before .fits .latitude))
+size-is c = sym (natAbs-join (c .new .result .count)) ∙ ap natAbs (angle-is c)
 
 outside-is : (c : tie.After-outside) → c .outside .result ≡ outside H (c .before .before .before .before .args .latitude)
-outside-is c = rw (c .outside .ensures, size-is (c .before)) refl
+outside-is c = c .outside .ensures ∙ ap (outside H) (angle-is (c .before))
 
 -- a latitude that is not outside
 latitude-good : (c : tie.Else2) → outside H (c .before .before .before .before .before .args .latitude) ≡ false

@@ -3,6 +3,7 @@ use mathlib.Core.Path.{_∙_}
 use native.Mathlib.Omega.{arith}
 use borrow.Author.Needs.{needs}
 use Rattle.projection.specs.Parallel.{numerator}
+use Rattle.projection.specs.Columns.{combined}
 use Rattle.projection.proofs.Rows.{column}
 use Rattle.projection.proofs.Widths.{root-small, numerator-whole}
 use Rattle.projection.proofs.parallel.numerator.Statement.{statement}
@@ -27,7 +28,7 @@ combined-requires c κs =
     })
 
 returns : tie.Need-returns
-unfolding numerator
+unfolding numerator combined
 returns c =
     let s = c .before .before .before .before in
     c .combined .ensures ∙ rw (column (s .args .row .a) (s .pre .columns .a-small), column (s .args .row .b) (s .pre .columns .b-small), c .before .before .before .root-at .ensures)

@@ -5,6 +5,7 @@ use native.Mathlib.Omega.{arith}
 use Rattle.whole.proofs.Squares.{square-mono}
 use Rattle.projection.specs.Angle.{H}
 use Rattle.projection.specs.Parallel.{radicand}
+use Rattle.projection.specs.Columns.{combined}
 use Rattle.projection.proofs.Rows.{column}
 use Rattle.projection.proofs.Widths.{radicand-whole}
 use Rattle.projection.proofs.parallel.radicand.Statement.{statement}
@@ -29,7 +30,7 @@ combined-requires c κs =
     })
 
 returns : tie.Need-returns
-unfolding radicand
+unfolding radicand combined
 returns c = let s = c .before .before in c .combined .ensures ∙ rw (column (s .args .row .e) (s .pre .columns .e-small))
 
 pub radicand-spec : {M : Type 1} → statement M

@@ -1,46 +1,33 @@
 -- `whole::Signed::join` meets its contract.
-use mathlib.Core.Path.{_≡_}
-use Prim.Native.Nat.{ℕ, _<_, _^_}
+use Prim.Native.Nat.{_<_, _^_}
 use native.Mathlib.Omega.{arith}
 use borrow.Author.Needs.{needs}
-use lib.IntN.{pos, negℤ, natAbs, _-ℤ_, +ℤ-idl}
 use mir.Syntax.{w64}
-use mir.Val.{toZ}
-use mir.Facts.{toZ-pos}
-use Rattle.whole.proofs.Signs.{natAbs-neg, fits, back}
+use mir.Facts.{toZ-ofZ, toZ-pos}
+use Rattle.whole.proofs.Signs.{turned, turned-fits}
 use Rattle.whole.proofs.Signed.join.Statement.{statement}
 use Rattle.whole.proofs.Signed.join.Tie as tie
 
-wide : (n : ℕ) → n < 2 ^ 32 → toZ w64 n ≡ pos n
-wide n h = toZ-pos w64 (omega arith)
+small : (c : tie.After-struct-known) → c .before .before .args .self .size < 2 ^ 63
+small c = omega (arith, c .struct-known .given)
 
-turned : (n : ℕ) → n < 2 ^ 32 → pos 0 -ℤ toZ w64 n ≡ negℤ (pos n)
-turned n h = rw (wide n h) (+ℤ-idl (negℤ (pos n)))
-
-small : (n : ℕ) → n < 2 ^ 32 → natAbs (negℤ (pos n)) < 2 ^ 63
-small n h = rw (natAbs-neg (pos n)) (omega arith)
+small-2 : (c : tie.After-struct-known2) → c .before .before .args .self .size < 2 ^ 63
+small-2 c = omega (arith, c .struct-known2 .given)
 
 cast-result : tie.Need-cast-result
 cast-result c = search needs
 
 sub-result : tie.Need-sub-result
-sub-result c =
-    let n = c .before .before .args .self .size in
-    let h : n < 2 ^ 32 = omega (arith, c .struct-known .given) in
-    rw (turned n h) (fits w64 (negℤ (pos n)) (small n h))
+sub-result c = rw (turned w64 (small c)) (turned-fits w64 (small c))
 
 cast-result-2 : tie.Need-cast-result-2
 cast-result-2 c = search needs
 
 returns : tie.Need-returns
-returns c =
-    let n = c .before .before .args .self .size in
-    let h : n < 2 ^ 32 = omega (arith, c .struct-known .given) in
-    rw (turned n h, c .before .if1 .taken) (back w64 (negℤ (pos n)) (small n h))
+returns c = rw (turned w64 (small c), c .before .if1 .taken) (toZ-ofZ (turned-fits w64 (small c)))
 
 returns-2 : tie.Need-returns-2
-returns-2 c =
-    rw (wide (c .before .before .args .self .size) (omega (arith, c .struct-known2 .given)), c .before .if1 .left)
+returns-2 c = rw (toZ-pos w64 (small-2 c), c .before .if1 .left)
 
 pub join-spec : {M : Type 1} → statement M
 join-spec = tie.close (tie.spec cast-result sub-result cast-result-2 returns returns-2)
