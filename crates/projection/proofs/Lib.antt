@@ -1,3 +1,7 @@
 pub mod Every
 pub mod Rows
 pub mod Widths
+pub mod Longitudes
+pub mod Scales
+pub mod Found
+pub mod Judged

@@ -1,18 +1,37 @@
--- What is answered to a caller who asks for a half-width.
-use mathlib.Core.List.{[], _∷_}
+-- What is answered to a caller: document 01's order of refusals, or else a half-width, a place or a position.
+use mathlib.Core.List.{List, [], _∷_}
 use Prim.Native.Nat.{ℕ}
 use lib.IntN.{ℤ, natAbs}
 use Rattle.projection.specs.declared.parallel.Width.{Width}
 use Rattle.projection.specs.declared.parallel.Width.the-variants.{Units, Refused}
+use Rattle.projection.specs.declared.answer.Answer.{Answer}
+use Rattle.projection.specs.declared.answer.Answer.the-variants.{Pair, Refused as PairRefused}
 use Rattle.projection.specs.Table.{rowOf}
 use Rattle.projection.specs.Parallel.{halfWidth}
-use Rattle.projection.specs.Refusal.{Outcome, refused, given, unless, badKind, badLatitude}
+use Rattle.projection.specs.Forward.{placeOf}
+use Rattle.projection.specs.Inverse.{positionOf}
+use Rattle.projection.specs.Refusal.{Refusal, Outcome, refused, given, unless, badKind, badCentral, badLongitude, badLatitude, badY, badX}
 
--- document 01's number or value for each case of the code's answer
-abbrev pub meaning : Width → Outcome ℕ
-meaning (Units w) = given w
-meaning (Refused n) = refused n
+-- document 01's number or value for each case of the code's answers
+abbrev pub widthMeaning : Width → Outcome ℕ
+widthMeaning (Units w) = given w
+widthMeaning (Refused n) = refused n
+
+abbrev pub meaning : Answer → Outcome (ℤ × ℤ)
+meaning (Pair first second) = given (first, second)
+meaning (PairRefused n) = refused n
 
 -- the half-width of a kind at a latitude
 unfoldable pub widthOf : ℕ → ℤ → Outcome ℕ
 widthOf kind latitude = unless (badKind kind ∷ badLatitude latitude ∷ []) (halfWidth (rowOf kind) (natAbs latitude))
+
+-- a position sent forward: x and y
+unfoldable pub forwardOf : ℕ → ℤ → ℤ → ℤ → Outcome (ℤ × ℤ)
+forwardOf kind central longitude latitude =
+    unless (badKind kind ∷ badCentral central ∷ badLongitude longitude ∷ badLatitude latitude ∷ [])
+    (placeOf (rowOf kind) central longitude latitude)
+
+-- a place sent back: longitude and latitude
+unfoldable pub inverseOf : ℕ → ℤ → ℤ → ℤ → Outcome (ℤ × ℤ)
+inverseOf kind central x y =
+    unless (badKind kind ∷ badCentral central ∷ badY (rowOf kind) y ∷ badX (rowOf kind) x y ∷ []) (positionOf (rowOf kind) central x y)

@@ -1,6 +1,9 @@
 pub mod Angle
 pub mod Table
 pub mod Parallel
+pub mod Longitude
+pub mod Forward
+pub mod Inverse
 pub mod Refusal
 pub mod Answer
 pub mod Columns

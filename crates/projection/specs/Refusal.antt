@@ -5,8 +5,11 @@ use Prim.Native.Nat.{ℕ}
 use lib.Dec.{leb}
 use lib.IntN.{ℤ}
 use lib.ListN.{length}
-use Rattle.projection.specs.Angle.{H, outside}
+use Rattle.projection.specs.declared.table.Row.{Row}
+use Rattle.projection.specs.Angle.{N, H, outside}
 use Rattle.projection.specs.Table.{rows}
+use Rattle.projection.specs.Parallel.{height}
+use Rattle.projection.specs.Inverse.{widthAt}
 
 pub record Refusal : Type 0 where
   pub number : ℕ
@@ -30,6 +33,22 @@ isKind kind = cond (leb 1 kind) (leb kind (length rows)) false
 abbrev pub badKind : ℕ → Refusal
 badKind kind = record { number = 1; applies = not (isKind kind) }
 
+-- 3: central meridian outside 180 degrees either way
+abbrev pub badCentral : ℤ → Refusal
+badCentral central = record { number = 3; applies = outside N central }
+
+-- 4: longitude outside 180 degrees either way
+abbrev pub badLongitude : ℤ → Refusal
+badLongitude longitude = record { number = 4; applies = outside N longitude }
+
 -- 5: latitude outside 90 degrees either way
 abbrev pub badLatitude : ℤ → Refusal
 badLatitude latitude = record { number = 5; applies = outside H latitude }
+
+-- 6: size of y greater than the pole's y, nearest to KY H / N
+abbrev pub badY : Row → ℤ → Refusal
+badY r y = record { number = 6; applies = outside (height r H) y }
+
+-- 7: size of x greater than W of the row found
+abbrev pub badX : Row → ℤ → ℤ → Refusal
+badX r x y = record { number = 7; applies = outside (widthAt r y) x }

@@ -1,8 +1,8 @@
-// A parallel of a row: the half-width W of document 01.
+// A parallel of a row: the half-width W of document 01, and its y.
 ghost use mathlib.Core.Path.{_≡_};
-ghost use Rattle.projection.specs.Parallel.{radicand as radicandOf, rootAt, numerator as numeratorOf, halfWidth};
+ghost use Rattle.projection.specs.Parallel.{radicand as radicandOf, rootAt, numerator as numeratorOf, halfWidth, height};
 ghost use Rattle.projection.specs.Columns.{combined as combinedOf, Combines, Usable};
-ghost use Rattle.projection.specs.Answer.{meaning, widthOf};
+ghost use Rattle.projection.specs.Answer.{widthMeaning, widthOf};
 use super::angle::Angle;
 use super::table::Method;
 use super::table::Row;
@@ -22,7 +22,7 @@ pub enum Width {
 
 // The half-width of a kind at a latitude.
 pub fn half_width(kind: u8, latitude: i32) -> Width
-    ensures { λ r. ⌜ meaning r ≡ widthOf kind latitude ⌝ }
+    ensures { λ r. ⌜ widthMeaning r ≡ widthOf kind latitude ⌝ }
 {
     if !is_kind(kind) {
         return Width::Refused(1);
@@ -41,6 +41,14 @@ pub(crate) fn row_half_width(row: Row, p: u32) -> u32
     ensures { λ r. ⌜ r ≡ halfWidth row p ⌝ }
 {
     nearest((row.kx as u64) * numerator(row, p), 2 * (Angle::M as u64)) as u32
+}
+
+// The size of y on a row at a latitude of size p.
+pub(crate) fn row_height(row: Row, p: u32) -> u32
+    requires { ⌜ Usable row p ⌝ }
+    ensures { λ r. ⌜ r ≡ height row p ⌝ }
+{
+    nearest((row.ky as u64) * (p as u64), Angle::N as u64) as u32
 }
 
 // a M + b q, for the q of the latitude size p.

@@ -4,12 +4,15 @@ use whole::Signed;
 // The letter of a line that has no byte yet: no line holds it.
 pub const NONE: u8 = b'\n';
 
-// A size from here up is not read on: no answer goes so far, and it is refused by the same number.
+// The most numbers that a request has.
+const MOST: usize = 4;
+
+// A size from here up is far past 31 bits with a digit more, and how far is not kept.
 const ENOUGH: u32 = 400_000_000;
 
 pub struct Line {
     pub letter: u8,
-    pub values: [Signed; 2],
+    pub values: [Signed; MOST],
     pub count: usize,
     // The number that is being read.
     pub size: u32,
@@ -23,7 +26,7 @@ impl Line {
     pub fn new() -> Line {
         Line {
             letter: NONE,
-            values: [Signed::split(0); 2],
+            values: [Signed::split(0); MOST],
             count: 0,
             size: 0,
             digits: false,
@@ -62,7 +65,7 @@ impl Line {
             return self;
         }
         let at = self.count;
-        if at >= 2 {
+        if at >= MOST {
             self.good = false;
             return self;
         }
@@ -76,6 +79,11 @@ impl Line {
         self.negative = false;
         self
     }
+
+    // Whether an ended line is a request of this letter with so many numbers.
+    pub fn asks(self, letter: u8, count: usize) -> bool {
+        self.good && self.letter == letter && self.count == count
+    }
 }
 
 // The size with a decimal digit more.
@@ -83,6 +91,6 @@ fn grown(size: u32, digit: u8) -> u32 {
     if size < ENOUGH {
         size * 10 + digit as u32
     } else {
-        size
+        u32::MAX
     }
 }

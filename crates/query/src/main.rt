@@ -1,16 +1,14 @@
-// Answers requests from standard input on standard output, a line for each. 'w KIND LATITUDE' asks for the half-width of a
-// parallel, the latitude in hundredths of an arcsecond; the answer is its map units, or 'refused' and the number.
+// Answers requests from standard input on standard output, a line for each: 'w KIND LATITUDE' by the half-width of a
+// parallel, 'f KIND CENTRAL LONGITUDE LATITUDE' by the place's x and y, 'i KIND CENTRAL X Y' by the position's longitude and
+// latitude, or by 'refused' and the number. Angles are in hundredths of an arcsecond; CENTRAL is the central meridian.
+mod answers;
 mod line;
 
-ghost use Prim.Native.Nat.{_<_};
+use answers::answer;
 use libc::STDERR_FILENO;
 use libc::STDIN_FILENO;
-use libc::STDOUT_FILENO;
 use line::Line;
 use line::NONE;
-use projection::Width;
-use projection::half_width;
-use whole::Signed;
 
 fn main() {
     let mut space = io::large_buffer();
@@ -43,51 +41,4 @@ fn answer_all(line: Line, bytes: &[u8]) -> Line {
         }
     }
     line
-}
-
-fn answer(line: Line) {
-    if line.good && line.letter == b'w' && line.count == 2 {
-        let kind = line.values[0];
-        let latitude = line.values[1];
-        answer_width(half_width(narrow_kind(kind), narrow(latitude)));
-    } else {
-        io::write_all(STDOUT_FILENO, b"unreadable\n");
-    }
-}
-
-fn answer_width(width: Width) {
-    match width {
-        Width::Units(w) => {
-            io::print_decimal(STDOUT_FILENO, w as u64);
-        }
-        Width::Refused(n) => {
-            io::write_all(STDOUT_FILENO, b"refused ");
-            io::print_decimal(STDOUT_FILENO, n as u64);
-        }
-    }
-    io::write_all(STDOUT_FILENO, b"\n");
-}
-
-// The number as a kind, or 0, which is none.
-fn narrow_kind(value: Signed) -> u8 {
-    if value.negative {
-        return 0;
-    }
-    if value.size > 255 {
-        0
-    } else {
-        value.size as u8
-    }
-}
-
-// The number in 32 bits, or the farthest on its side of 0.
-fn narrow(value: Signed) -> i32 {
-    let size = least(value.size) as i32;
-    if value.negative { 0 - size } else { size }
-}
-
-fn least(size: u32) -> u32
-    ensures { λ r. ⌜ r < 2147483648 ⌝ }
-{
-    if size < 2147483648 { size } else { 2147483647 }
 }

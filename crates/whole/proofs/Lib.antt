@@ -1,4 +1,5 @@
 pub mod Products
 pub mod Rounding
+pub mod Scales
 pub mod Squares
 pub mod Signs

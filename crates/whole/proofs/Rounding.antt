@@ -35,6 +35,10 @@ unfolding nearest
 nearest-zero zero = refl
 nearest-zero (suc d) = let n = near 0 (suc d) (omega arith) in le-antisymm (cancel (suc d) (omega arith)) (omega arith)
 
+pub nearest-by-zero : (n : ℕ) → nearest n 0 ≡ 0
+unfolding nearest
+nearest-by-zero n = refl
+
 -- a half goes up
 carry-half : (h : ℕ) → carry h (2 * h) ≡ 1
 unfolding carry

@@ -1,5 +1,5 @@
 -- Signed numbers by their positive and negative parts, so that a linear fact of ℤ is one of ℕ.
-use mathlib.Core.Path.{_≡_, refl, sym, _∙_}
+use mathlib.Core.Path.{_≡_, refl, sym, ap, _∙_}
 use mathlib.Core.Bool.{Bool, true, false, cond}
 use Prim.Native.Nat.{ℕ, zero, suc, _+_, _-_, _*_, _≤_, _<_, _^_, min}
 use native.Mathlib.Nat.{zero-mul, le-refl, lt-of-le-of-lt}
@@ -13,7 +13,7 @@ use mir.Val.{SFits, hbits, toZ, ofZ}
 use mir.Facts.{toZ-ofZ, toZ-pos}
 use Rattle.whole.specs.Nearest.{nearest}
 use Rattle.whole.specs.declared.Signed.{Signed}
-use Rattle.whole.specs.Signed.{splitOf, withSign, joinOf, plus, minus, nearestSigned}
+use Rattle.whole.specs.Signed.{splitOf, withSign, joinOf, plus, minus, onSize, nearestSigned}
 use Rattle.whole.proofs.Rounding.{nearest-zero}
 
 pub natAbs-neg : (z : ℤ) → natAbs (negℤ z) ≡ natAbs z
@@ -25,12 +25,12 @@ pub join-split : (z : ℤ) → joinOf (splitOf z) ≡ z
 join-split (pos n) = refl
 join-split (negsuc n) = refl
 
+pub natAbs-sign : (b : Bool) (n : ℕ) → natAbs (withSign b n) ≡ n
+natAbs-sign true n = natAbs-neg (pos n)
+natAbs-sign false n = refl
+
 pub natAbs-join : (s : Signed) → natAbs (joinOf s) ≡ s .size
-natAbs-join s = go (s .negative)
-  where
-    go : (b : Bool) → natAbs (withSign b (s .size)) ≡ s .size
-    go true = natAbs-neg (pos (s .size))
-    go false = refl
+natAbs-join s = natAbs-sign (s .negative) (s .size)
 
 -- what a number's parts are
 pub record Parts (z : ℤ) : Type 0 where
@@ -65,6 +65,41 @@ minus-neg (pos zero) = refl
 minus-neg (pos (suc n)) = refl
 minus-neg (negsuc n) = refl
 
+-- numbers with the same parts are the same
+pub ext : (x y : ℤ) → plus x + minus y ≡ minus x + plus y → x ≡ y
+ext (pos a) (pos b) h = ap pos (omega arith)
+ext (pos a) (negsuc b) h = absurd (omega arith)
+ext (negsuc a) (pos b) h = absurd (omega arith)
+ext (negsuc a) (negsuc b) h = ap negsuc (omega arith)
+
+-- what is left of a where b is taken away, by sign and size
+pub less-east : (a b : ℕ) → b ≤ a → pos a -ℤ pos b ≡ withSign false (a - b)
+less-east a b h =
+    let s = sum (pos a) (negℤ (pos b)) in
+    let p = plus-neg (pos b) in
+    let m = minus-neg (pos b) in
+    ext (pos a -ℤ pos b) (pos (a - b)) (omega arith)
+
+pub less-west : (a b : ℕ) → a ≤ b → pos a -ℤ pos b ≡ withSign true (b - a)
+less-west a b h =
+    let s = sum (pos a) (negℤ (pos b)) in
+    let p = plus-neg (pos b) in
+    let m = minus-neg (pos b) in
+    let q = plus-neg (pos (b - a)) in
+    let n = minus-neg (pos (b - a)) in
+    ext (pos a -ℤ pos b) (negℤ (pos (b - a))) (omega arith)
+
+-- a sum is what is added less what is taken away
+pub by-parts : (x y : ℤ) → pos (plus x + plus y) -ℤ pos (minus x + minus y) ≡ x +ℤ y
+by-parts x y =
+    let a = plus x + plus y in
+    let b = minus x + minus y in
+    let s = sum (pos a) (negℤ (pos b)) in
+    let p = plus-neg (pos b) in
+    let m = minus-neg (pos b) in
+    let t = sum x y in
+    ext (pos a -ℤ pos b) (x +ℤ y) (omega arith)
+
 pub plus-mul : (z : ℤ) (k : ℕ) → plus (z *ℤ pos k) ≡ plus z * k
 plus-mul (pos n) k = refl
 plus-mul (negsuc n) k = plus-neg (pos (suc n * k)) ∙ sym (zero-mul k)
@@ -77,15 +112,28 @@ pub natAbs-mul : (z : ℤ) (k : ℕ) → natAbs (z *ℤ pos k) ≡ natAbs z * k
 natAbs-mul (pos n) k = refl
 natAbs-mul (negsuc n) k = natAbs-neg (pos (suc n * k))
 
--- signed rounding is the same on both sides of 0, and rounds the size
-pub nearest-neg : (z : ℤ) (d : ℕ) → nearestSigned (negℤ z) d ≡ negℤ (nearestSigned z d)
-nearest-neg (pos zero) d = rw (nearest-zero d)
-nearest-neg (pos (suc n)) d = refl
-nearest-neg (negsuc n) d = sym (negℤ-negℤ (pos (nearest (suc n) d)))
+-- a function of the size is the same on both sides of 0, if it keeps 0
+pub natAbs-on : (f : ℕ → ℕ) (z : ℤ) → natAbs (onSize f z) ≡ f (natAbs z)
+natAbs-on f (pos n) = refl
+natAbs-on f (negsuc n) = natAbs-neg (pos (f (suc n)))
 
-pub natAbs-nearest : (z : ℤ) (d : ℕ) → natAbs (nearestSigned z d) ≡ nearest (natAbs z) d
-natAbs-nearest (pos n) d = refl
-natAbs-nearest (negsuc n) d = natAbs-neg (pos (nearest (suc n) d))
+pub on-neg : (f : ℕ → ℕ) → f 0 ≡ 0 → (z : ℤ) → onSize f (negℤ z) ≡ negℤ (onSize f z)
+on-neg f h (pos zero) = rw h
+on-neg f h (pos (suc n)) = refl
+on-neg f h (negsuc n) = sym (negℤ-negℤ (pos (f (suc n))))
+
+pub on-sign : (f : ℕ → ℕ) → f 0 ≡ 0 → (b : Bool) (n : ℕ) → onSize f (withSign b n) ≡ withSign b (f n)
+on-sign f h false n = refl
+on-sign f h true n = on-neg f h (pos n)
+
+-- so is the rounding of a multiple
+pub nearest-scaled : (k : ℕ) (z : ℤ) (d : ℕ) → nearestSigned (pos k *ℤ z) d ≡ onSize (λ (n : ℕ). nearest (k * n) d) z
+nearest-scaled k (pos n) d = refl
+nearest-scaled k (negsuc n) d = on-neg (λ (m : ℕ). nearest m d) (nearest-zero d) (pos (k * suc n))
+
+pub scaled-nearest : (z : ℤ) (k d : ℕ) → nearestSigned (z *ℤ pos k) d ≡ onSize (λ (n : ℕ). nearest (n * k) d) z
+scaled-nearest (pos n) k d = refl
+scaled-nearest (negsuc n) k d = on-neg (λ (m : ℕ). nearest m d) (nearest-zero d) (pos (suc n * k))
 
 -- a number with no negative part is its own size
 pub natAbs-whole : (z : ℤ) → minus z ≡ 0 → pos (natAbs z) ≡ z

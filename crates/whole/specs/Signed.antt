@@ -27,6 +27,11 @@ abbrev pub minus : ℤ → ℕ
 minus (pos n) = 0
 minus (negsuc n) = suc n
 
--- the whole number nearest to z / d: the size is rounded, and the sign put back
+-- f of the size, with the sign kept
+abbrev pub onSize : (ℕ → ℕ) → ℤ → ℤ
+onSize f (pos n) = pos (f n)
+onSize f (negsuc n) = negℤ (pos (f (suc n)))
+
+-- the whole number nearest to z / d, the same on both sides of 0
 abbrev pub nearestSigned : ℤ → ℕ → ℤ
-nearestSigned z d = withSign (splitOf z .negative) (nearest (splitOf z .size) d)
+nearestSigned z d = onSize (λ (n : ℕ). nearest n d) z

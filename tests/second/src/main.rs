@@ -1,23 +1,23 @@
 //! The second program: document 01's rules once more, with no code of the product. `second requests` writes requests for
 //! the program `query`, and `second answers` reads such requests and writes what is to be answered.
+mod edges;
 mod map;
 mod requests;
 mod table;
 
-use map::{half_width, Answer};
+use map::{forward, half_width, inverse, Answer};
 use std::io::{self, Read, Write};
 
 fn main() -> io::Result<()> {
+    table::check();
     let mut out = io::stdout().lock();
     match std::env::args().nth(1).as_deref() {
         Some("requests") => out.write_all(requests::all().as_bytes()),
         Some("answers") => {
             let mut text = String::new();
             io::stdin().read_to_string(&mut text)?;
-            for line in text.lines() {
-                writeln!(out, "{}", answer(line))?;
-            }
-            Ok(())
+            let answers: Vec<String> = text.lines().map(|line| answer(line) + "\n").collect();
+            out.write_all(answers.concat().as_bytes())
         }
         _ => {
             eprintln!("second requests | second answers");
@@ -27,12 +27,18 @@ fn main() -> io::Result<()> {
 }
 
 fn answer(line: &str) -> String {
-    match numbers(line).as_deref() {
-        Some([kind, latitude]) if line.starts_with('w') => match half_width(*kind, *latitude) {
-            Answer::Width(w) => w.to_string(),
-            Answer::Refused(n) => format!("refused {n}"),
-        },
-        _ => "unreadable".to_string(),
+    let answer = match (line.chars().next(), numbers(line).as_deref()) {
+        (Some('w'), Some(&[kind, latitude])) => half_width(kind, latitude),
+        (Some('f'), Some(&[kind, central, longitude, latitude])) => {
+            forward(kind, central, longitude, latitude)
+        }
+        (Some('i'), Some(&[kind, central, x, y])) => inverse(kind, central, x, y),
+        _ => return "unreadable".to_string(),
+    };
+    match answer {
+        Answer::Width(w) => w.to_string(),
+        Answer::Pair(first, second) => format!("{first} {second}"),
+        Answer::Refused(n) => format!("refused {n}"),
     }
 }
 

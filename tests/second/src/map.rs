@@ -6,6 +6,7 @@ pub const RIGHT_ANGLE: i128 = 90 * 60 * 60 * 100;
 
 pub enum Answer {
     Width(i128),
+    Pair(i128, i128),
     Refused(u8),
 }
 
@@ -31,7 +32,7 @@ fn floor_root(n: i128) -> i128 {
     r
 }
 
-fn row_width(row: &Row, p: i128) -> i128 {
+pub fn row_width(row: &Row, p: i128) -> i128 {
     let m = 32 * HALF_TURN;
     let s = HALF_TURN * HALF_TURN + row.e * p * p;
     let q = if row.quotient {
@@ -42,6 +43,27 @@ fn row_width(row: &Row, p: i128) -> i128 {
     nearest(row.kx * (row.a * m + row.b * q), 2 * m)
 }
 
+/// y of a latitude.
+pub fn row_y(row: &Row, latitude: i128) -> i128 {
+    nearest(row.ky * latitude, HALF_TURN)
+}
+
+/// The latitude that is found at y.
+pub fn row_latitude(row: &Row, y: i128) -> i128 {
+    nearest(y * HALF_TURN, row.ky)
+}
+
+/// A difference or a sum of two longitudes, a whole turn nearer to 0 if it is more than a half turn away.
+fn wrapped(angle: i128) -> i128 {
+    if angle > HALF_TURN {
+        angle - 2 * HALF_TURN
+    } else if angle < -HALF_TURN {
+        angle + 2 * HALF_TURN
+    } else {
+        angle
+    }
+}
+
 pub fn half_width(kind: i128, latitude: i128) -> Answer {
     let Some(row) = row_of(kind) else {
         return Answer::Refused(1);
@@ -50,4 +72,41 @@ pub fn half_width(kind: i128, latitude: i128) -> Answer {
         return Answer::Refused(5);
     }
     Answer::Width(row_width(&row, latitude.abs()))
+}
+
+pub fn forward(kind: i128, central: i128, longitude: i128, latitude: i128) -> Answer {
+    let Some(row) = row_of(kind) else {
+        return Answer::Refused(1);
+    };
+    if central.abs() > HALF_TURN {
+        return Answer::Refused(3);
+    }
+    if longitude.abs() > HALF_TURN {
+        return Answer::Refused(4);
+    }
+    if latitude.abs() > RIGHT_ANGLE {
+        return Answer::Refused(5);
+    }
+    let d = wrapped(longitude - central);
+    let w = row_width(&row, latitude.abs());
+    Answer::Pair(nearest(w * d, HALF_TURN), row_y(&row, latitude))
+}
+
+pub fn inverse(kind: i128, central: i128, x: i128, y: i128) -> Answer {
+    let Some(row) = row_of(kind) else {
+        return Answer::Refused(1);
+    };
+    if central.abs() > HALF_TURN {
+        return Answer::Refused(3);
+    }
+    if y.abs() > row_y(&row, RIGHT_ANGLE) {
+        return Answer::Refused(6);
+    }
+    let latitude = row_latitude(&row, y);
+    let w = row_width(&row, latitude.abs());
+    if x.abs() > w {
+        return Answer::Refused(7);
+    }
+    let d = if w == 0 { 0 } else { nearest(x * HALF_TURN, w) };
+    Answer::Pair(wrapped(central + d), latitude)
 }

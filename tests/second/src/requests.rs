@@ -1,59 +1,132 @@
 //! Requests over every kind and every edge that document 01 names, and some thousand at random from a fixed seed.
-use crate::map::RIGHT_ANGLE;
+use crate::edges;
+use crate::map::{forward, inverse, row_latitude, row_width, row_y, Answer};
+use crate::map::{HALF_TURN, RIGHT_ANGLE};
+use crate::table::row_of;
 
-const DEGREE: i128 = 60 * 60 * 100;
+pub const DEGREE: i128 = 60 * 60 * 100;
 
 pub fn all() -> String {
-    let mut lines: Vec<String> = Vec::new();
-    for kind in 0..=11 {
-        for degrees in -91..=91 {
-            lines.push(width(kind, degrees * DEGREE));
-        }
-    }
-    for kind in [
-        0, 1, 2, 9, 10, 11, 127, 128, 255, 256, 257, 266, -1, -256, 4294967297,
-    ] {
-        for latitude in edges() {
-            lines.push(width(kind, latitude));
-        }
-    }
-    let mut state = 20_260_101;
-    for i in 0..4000 {
-        let latitude = (next(&mut state) % (2 * RIGHT_ANGLE as u64 + 1)) as i128 - RIGHT_ANGLE;
-        lines.push(width(1 + i % 10, latitude));
-    }
+    let mut lines = edges::widths();
+    lines.extend(edges::positions());
+    lines.extend(edges::places());
+    lines.extend(edges::refusals());
+    lines.extend(neighbours());
+    lines.extend(random());
+    lines.extend(DOCUMENT.map(String::from));
     lines.extend(ODD.map(String::from));
     // the last line has no end of its own
     lines.push(width(2, 72 * DEGREE));
     lines.join("\n")
 }
 
-fn width(kind: i128, latitude: i128) -> String {
+pub fn width(kind: i128, latitude: i128) -> String {
     format!("w {kind} {latitude}")
 }
 
-fn edges() -> Vec<i128> {
-    let sizes = [
-        0,
-        1,
-        2,
-        RIGHT_ANGLE - 1,
-        RIGHT_ANGLE,
-        RIGHT_ANGLE + 1,
-        2147483647,
-        2147483648,
-        4294967296 + 5,
-        1 << 80,
-    ];
-    sizes.iter().flat_map(|size| [*size, -size]).collect()
+pub fn position(kind: i128, central: i128, longitude: i128, latitude: i128) -> String {
+    format!("f {kind} {central} {longitude} {latitude}")
 }
 
+pub fn place(kind: i128, central: i128, x: i128, y: i128) -> String {
+    format!("i {kind} {central} {x} {y}")
+}
+
+/// A position, and the way back from its place if it has one.
+pub fn there_and_back(kind: i128, central: i128, longitude: i128, latitude: i128) -> Vec<String> {
+    let mut lines = vec![position(kind, central, longitude, latitude)];
+    if let Answer::Pair(x, y) = forward(kind, central, longitude, latitude) {
+        lines.push(place(kind, central, x, y));
+    }
+    lines
+}
+
+/// A place, and the way on from its position if it has one.
+pub fn back_and_there(kind: i128, central: i128, x: i128, y: i128) -> Vec<String> {
+    let mut lines = vec![place(kind, central, x, y)];
+    if let Answer::Pair(longitude, latitude) = inverse(kind, central, x, y) {
+        lines.push(position(kind, central, longitude, latitude));
+    }
+    lines
+}
+
+/// Neighbouring meridians of kind 2: apart at 72 degrees, some of them in one place at 89.
+fn neighbours() -> Vec<String> {
+    let mut lines = Vec::new();
+    for latitude in [72 * DEGREE, 89 * DEGREE] {
+        for first in [-20, 45 * DEGREE, HALF_TURN - 40] {
+            for longitude in first..=first + 40 {
+                lines.extend(there_and_back(2, 0, longitude, latitude));
+            }
+        }
+    }
+    lines
+}
+
+fn random() -> Vec<String> {
+    let mut lines = Vec::new();
+    let mut state = 20_260_101;
+    for i in 0..2000 {
+        lines.push(width(1 + i % 10, within(&mut state, RIGHT_ANGLE)));
+    }
+    for i in 0..1500 {
+        let kind = 1 + i % 10;
+        let central = within(&mut state, HALF_TURN);
+        let longitude = within(&mut state, HALF_TURN);
+        let latitude = within(&mut state, RIGHT_ANGLE);
+        lines.extend(there_and_back(kind, central, longitude, latitude));
+    }
+    for i in 0..1500 {
+        let kind = 1 + i % 10;
+        let row = row_of(kind).expect("a kind of the table");
+        let central = within(&mut state, HALF_TURN);
+        let y = within(&mut state, row_y(&row, RIGHT_ANGLE));
+        let w = row_width(&row, row_latitude(&row, y));
+        lines.extend(back_and_there(kind, central, within(&mut state, w), y));
+        // most of these are inside, some are only inside the Equator's width
+        let x = within(&mut state, row_width(&row, 0));
+        lines.push(place(kind, central, x, y));
+    }
+    lines
+}
+
+/// The cases of document 01 that numbers can ask for.
+const DOCUMENT: [&str; 22] = [
+    // P1 and P2
+    "f 1 0 32400000 16200000",
+    "f 1 0 -32400000 -16200000",
+    "i 1 0 157079633 78539816",
+    // P3 to P10: the half-width is x at 180 degrees
+    "f 6 0 64800000 32400000",
+    "f 2 0 64800000 19440000",
+    "f 2 0 64800000 25920000",
+    "f 5 0 64800000 0",
+    "f 5 0 64800000 32400000",
+    "f 7 0 64800000 16200000",
+    "f 8 0 64800000 16200000",
+    "f 8 0 64800000 32400000",
+    "f 9 0 64800000 0",
+    "f 9 0 64800000 32400000",
+    "f 10 0 64800000 32400000",
+    // P11
+    "f 1 61200000 -61200000 0",
+    "f 1 61200000 -3600000 0",
+    "i 1 61200000 34906585 0",
+    "i 1 61200000 -314159265 0",
+    "i 1 61200000 314159265 0",
+    // the pointed pole
+    "i 7 0 0 125331414",
+    "i 7 0 1 125331414",
+    "i 7 0 0 125331415",
+];
+
 /// Lines with something missing, too much or out of place; spaces may be left out or doubled.
-const ODD: [&str; 15] = [
+const ODD: [&str; 27] = [
     "",
     "w",
     "w 1",
     "w 1 2 3",
+    "w 1 2 3 4",
     "w 1 2 3 4 5",
     "x 1 2",
     "w1 2",
@@ -65,7 +138,23 @@ const ODD: [&str; 15] = [
     "w 1  2 ",
     "ww 1 2",
     "\0w 1 2",
+    "f",
+    "f 1 2",
+    "f 1 2 3",
+    "f 1 2 3 4 5",
+    "f1 2  3 4 ",
+    "f 1 2 3 -",
+    "i 1",
+    "i 1 2 3",
+    "i 1 2 3 4 5 6",
+    "i1 -2 -3 -4",
+    "g 1 2 3 4",
 ];
+
+/// A number from -limit to limit.
+fn within(state: &mut u64, limit: i128) -> i128 {
+    next(state) as i128 % (2 * limit + 1) - limit
+}
 
 /// A step of xorshift.
 fn next(state: &mut u64) -> u64 {

@@ -1,0 +1,151 @@
+-- `projection::place::forward` meets its contract: its tests are the conditions of the refusals, in their order.
+use mathlib.Core.Path.{_≡_, sym, ap, _∙_}
+use mathlib.Core.Bool.{Bool, true, false}
+use Prim.Native.Nat.{_≤_}
+use borrow.Author.Needs.{needs}
+use lib.Dec.{T}
+use lib.IntN.{natAbs}
+use Rattle.whole.specs.Signed.{joinOf}
+use Rattle.projection.specs.Angle.{N, H, outside}
+use Rattle.projection.specs.Table.{rowOf}
+use Rattle.projection.specs.Refusal.{isKind, unless}
+use Rattle.projection.specs.Columns.{Columns, Usable}
+use Rattle.projection.specs.Answer.{forwardOf}
+use Rattle.projection.proofs.Rows.{columns}
+use Rattle.projection.proofs.Judged.{not-false, number-is, within}
+use Rattle.projection.proofs.place.forward.Statement.{statement}
+use Rattle.projection.proofs.place.forward.Tie as tie
+
+-- the way back to what was handed in, from each test
+abbrev start1 : tie.Else1 → tie.Start
+start1 c = c .before .before
+
+abbrev start2 : tie.Else2 → tie.Start
+start2 c = start1 (c .before .before .before)
+
+abbrev start3 : tie.Else3 → tie.Start
+start3 c = start2 (c .before .before .before)
+
+abbrev start4 : tie.Else4 → tie.Start
+start4 c = start3 (c .before .before .before)
+
+kind-good : (c : tie.Else1) → isKind (start1 c .args .kind) ≡ true
+kind-good c = sym (c .before .is-kind .ensures) ∙ not-false (c .before .is-kind .result) (c .if1 .left)
+
+-- each angle is the number handed in
+central-is : (c : tie.After-new) → joinOf (c .new .result .count) ≡ start1 (c .before) .args .central
+central-is c = number-is (c .new .result .count) (start1 (c .before) .fits .central) (c .new .ensures)
+
+longitude-is : (c : tie.After-new2) → joinOf (c .new2 .result .count) ≡ start2 (c .before) .args .longitude
+longitude-is c = number-is (c .new2 .result .count) (start2 (c .before) .fits .longitude) (c .new2 .ensures)
+
+latitude-is : (c : tie.After-new3) → joinOf (c .new3 .result .count) ≡ start3 (c .before) .args .latitude
+latitude-is c = number-is (c .new3 .result .count) (start3 (c .before) .fits .latitude) (c .new3 .ensures)
+
+-- each test is the refusal's condition
+central-test : (c : tie.After-outside) → c .outside .result ≡ outside N (start1 (c .before .before) .args .central)
+central-test c = c .outside .ensures ∙ ap (outside N) (central-is (c .before))
+
+longitude-test : (c : tie.After-outside2) → c .outside2 .result ≡ outside N (start2 (c .before .before) .args .longitude)
+longitude-test c = c .outside2 .ensures ∙ ap (outside N) (longitude-is (c .before))
+
+latitude-test : (c : tie.After-outside3) → c .outside3 .result ≡ outside H (start3 (c .before .before) .args .latitude)
+latitude-test c = c .outside3 .ensures ∙ ap (outside H) (latitude-is (c .before))
+
+central-good : (c : tie.Else2) → outside N (start2 c .args .central) ≡ false
+central-good c = sym (central-test (c .before)) ∙ c .if2 .left
+
+longitude-good : (c : tie.Else3) → outside N (start3 c .args .longitude) ≡ false
+longitude-good c = sym (longitude-test (c .before)) ∙ c .if3 .left
+
+latitude-good : (c : tie.Else4) → outside H (start4 c .args .latitude) ≡ false
+latitude-good c = sym (latitude-test (c .before)) ∙ c .if4 .left
+
+is-kind-requires : tie.Need-is-kind-requires
+is-kind-requires c κs = search needs
+
+returns : tie.Need-returns
+unfolding forwardOf unless
+returns c = rw (← c .before .is-kind .ensures, c .if1 .taken)
+
+new-requires : tie.Need-new-requires
+new-requires c κs = search needs
+
+outside-requires : tie.Need-outside-requires
+outside-requires c κs = search needs
+
+returns-2 : tie.Need-returns-2
+unfolding forwardOf unless
+returns-2 c = rw (kind-good (c .before .before .before), ← central-test (c .before), c .if2 .taken)
+
+new-requires-2 : tie.Need-new-requires-2
+new-requires-2 c κs = search needs
+
+outside-requires-2 : tie.Need-outside-requires-2
+outside-requires-2 c κs = search needs
+
+returns-3 : tie.Need-returns-3
+unfolding forwardOf unless
+returns-3 c =
+    let c2 = c .before .before .before in
+    rw (kind-good (c2 .before .before .before), central-good c2, ← longitude-test (c .before), c .if3 .taken)
+
+new-requires-3 : tie.Need-new-requires-3
+new-requires-3 c κs = search needs
+
+outside-requires-3 : tie.Need-outside-requires-3
+outside-requires-3 c κs = search needs
+
+returns-4 : tie.Need-returns-4
+unfolding forwardOf unless
+returns-4 c =
+    let c3 = c .before .before .before in
+    let c2 = c3 .before .before .before in
+    rw (kind-good (c2 .before .before .before), central-good c2, longitude-good c3, ← latitude-test (c .before), c .if4 .taken)
+
+kind-true : (c : tie.Else4) → T (isKind (start4 c .args .kind))
+kind-true c = let c2 = c .before .before .before .before .before .before in rw (kind-good (c2 .before .before .before)) tt
+
+row-of-requires : tie.Need-row-of-requires
+row-of-requires c κs = kind-true c
+
+place-requires : tie.Need-place-requires
+place-requires c κs =
+    let c4 = c .before in
+    let c3 = c4 .before .before .before in
+    let c2 = c3 .before .before .before in (
+      record {
+        columns = rw (c .row-of .ensures) (columns (start4 c4 .args .kind) (kind-true c4));
+        latitude = within H (c4 .before .before .new3 .result .count) (c4 .before .outside3 .result) (c4 .before .outside3 .ensures) (c4 .if4 .left);
+      },
+      within N (c2 .before .before .new .result .count) (c2 .before .outside .result) (c2 .before .outside .ensures) (c2 .if2 .left),
+      within N (c3 .before .before .new2 .result .count) (c3 .before .outside2 .result) (c3 .before .outside2 .ensures) (c3 .if3 .left),
+    )
+
+returns-5 : tie.Need-returns-5
+unfolding forwardOf unless
+returns-5 c =
+    let c4 = c .before .before in
+    let c3 = c4 .before .before .before in
+    let c2 = c3 .before .before .before in
+    rw (kind-good (c2 .before .before .before), central-good c2, longitude-good c3, latitude-good c4)
+    (rw (c .before .row-of .ensures, central-is (c2 .before .before), longitude-is (c3 .before .before), latitude-is (c4 .before .before)) at (c .place .ensures))
+
+pub forward-spec : {M : Type 1} → statement M
+forward-spec =
+    tie.close
+    (tie.spec
+    is-kind-requires
+    returns
+    new-requires
+    outside-requires
+    returns-2
+    new-requires-2
+    outside-requires-2
+    returns-3
+    new-requires-3
+    outside-requires-3
+    returns-4
+    row-of-requires
+    place-requires
+    returns-5)

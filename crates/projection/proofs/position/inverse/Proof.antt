@@ -1,0 +1,100 @@
+-- `projection::position::inverse` meets its contract: its tests are the conditions of 1 and 3, and its row answers the rest.
+use mathlib.Core.Path.{_≡_, sym, ap, _∙_}
+use mathlib.Core.Bool.{Bool, true, false}
+use Prim.Native.Nat.{_≤_}
+use borrow.Author.Needs.{needs}
+use lib.Dec.{T}
+use Rattle.whole.specs.Signed.{joinOf}
+use Rattle.projection.specs.Angle.{N, outside}
+use Rattle.projection.specs.Refusal.{isKind, unless}
+use Rattle.projection.specs.Answer.{inverseOf}
+use Rattle.projection.proofs.Rows.{columns}
+use Rattle.projection.proofs.Judged.{not-false, number-is, within}
+use Rattle.projection.proofs.position.inverse.Statement.{statement}
+use Rattle.projection.proofs.position.inverse.Tie as tie
+
+-- the way back to what was handed in, from each test
+abbrev start1 : tie.Else1 → tie.Start
+start1 c = c .before .before
+
+abbrev start2 : tie.Else2 → tie.Start
+start2 c = start1 (c .before .before .before)
+
+kind-good : (c : tie.Else1) → isKind (start1 c .args .kind) ≡ true
+kind-good c = sym (c .before .is-kind .ensures) ∙ not-false (c .before .is-kind .result) (c .if1 .left)
+
+central-is : (c : tie.After-new) → joinOf (c .new .result .count) ≡ start1 (c .before) .args .central
+central-is c = number-is (c .new .result .count) (start1 (c .before) .fits .central) (c .new .ensures)
+
+central-test : (c : tie.After-outside) → c .outside .result ≡ outside N (start1 (c .before .before) .args .central)
+central-test c = c .outside .ensures ∙ ap (outside N) (central-is (c .before))
+
+central-good : (c : tie.Else2) → outside N (start2 c .args .central) ≡ false
+central-good c = sym (central-test (c .before)) ∙ c .if2 .left
+
+x-is : (c : tie.After-split) → joinOf (c .split .result) ≡ start2 (c .before .before) .args .x
+x-is c = number-is (c .split .result) (start2 (c .before .before) .fits .x) (c .split .ensures)
+
+y-is : (c : tie.After-split2) → joinOf (c .split2 .result) ≡ start2 (c .before .before .before) .args .y
+y-is c = number-is (c .split2 .result) (start2 (c .before .before .before) .fits .y) (c .split2 .ensures)
+
+is-kind-requires : tie.Need-is-kind-requires
+is-kind-requires c κs = search needs
+
+returns : tie.Need-returns
+unfolding inverseOf unless
+returns c = rw (← c .before .is-kind .ensures, c .if1 .taken)
+
+new-requires : tie.Need-new-requires
+new-requires c κs = search needs
+
+outside-requires : tie.Need-outside-requires
+outside-requires c κs = search needs
+
+returns-2 : tie.Need-returns-2
+unfolding inverseOf unless
+returns-2 c = rw (kind-good (c .before .before .before), ← central-test (c .before), c .if2 .taken)
+
+kind-true : (c : tie.Else2) → T (isKind (start2 c .args .kind))
+kind-true c = rw (kind-good (c .before .before .before)) tt
+
+row-of-requires : tie.Need-row-of-requires
+row-of-requires c κs = kind-true c
+
+split-requires : tie.Need-split-requires
+split-requires c κs = search needs
+
+split-requires-2 : tie.Need-split-requires-2
+split-requires-2 c κs = search needs
+
+position-requires : tie.Need-position-requires
+position-requires c κs =
+    let r = c .before .before in
+    let c2 = r .before in (
+      rw (r .row-of .ensures) (columns (start2 c2 .args .kind) (kind-true c2)),
+      within N (c2 .before .before .new .result .count) (c2 .before .outside .result) (c2 .before .outside .ensures) (c2 .if2 .left),
+    )
+
+returns-3 : tie.Need-returns-3
+unfolding inverseOf unless
+returns-3 c =
+    let s = c .before .before in
+    let r = s .before in
+    let c2 = r .before in
+    rw (kind-good (c2 .before .before .before), central-good c2)
+    (rw (r .row-of .ensures, central-is (c2 .before .before), x-is s, y-is (c .before)) at (c .position .ensures))
+
+pub inverse-spec : {M : Type 1} → statement M
+inverse-spec =
+    tie.close
+    (tie.spec
+    is-kind-requires
+    returns
+    new-requires
+    outside-requires
+    returns-2
+    row-of-requires
+    split-requires
+    split-requires-2
+    position-requires
+    returns-3)

@@ -1,0 +1,145 @@
+-- `projection::position::position` meets its contract: its tests are the conditions of 6 and 7, in their order.
+use mathlib.Core.Path.{_≡_, sym, ap, ap₂, _∙_}
+use mathlib.Core.Bool.{Bool, true, false}
+use Prim.Native.Nat.{ℕ, _*_, _≤_, _<_}
+use native.Mathlib.Omega.{arith}
+use borrow.Author.Needs.{needs}
+use borrow.Author.Tests.{lt-ltb, le-ltb}
+use lib.IntN.{ℤ, pos, natAbs, _+ℤ_, _*ℤ_}
+use Rattle.whole.specs.Nearest.{nearest}
+use Rattle.whole.specs.Signed.{joinOf, nearestSigned}
+use Rattle.whole.proofs.Signs.{natAbs-join}
+use Rattle.projection.specs.Angle.{N, H, outside}
+use Rattle.projection.specs.Longitude.{wrap}
+use Rattle.projection.specs.Parallel.{halfWidth, height}
+use Rattle.projection.specs.Inverse.{parallelAt, latitudeAt, widthAt, differenceAt, positionOf}
+use Rattle.projection.specs.Refusal.{given, unless}
+use Rattle.projection.specs.Columns.{Usable}
+use Rattle.projection.proofs.Longitudes.{longitude-le}
+use Rattle.projection.proofs.Scales.{unscaled-le, unscaled-size}
+use Rattle.projection.proofs.Found.{parallel-le, height-le, latitude-is, difference-is}
+use Rattle.projection.proofs.Judged.{size-is}
+use Rattle.projection.proofs.position.position.Statement.{statement}
+use Rattle.projection.proofs.position.position.Tie as tie
+
+-- the way back to what was handed in
+abbrev start1 : tie.Else1 → tie.Start
+start1 c = c .before .before .before
+
+abbrev start2 : tie.Else2 → tie.Start
+start2 c = start1 (c .before .before .before .before)
+
+-- the first test passed: y is at most the pole's
+y-le : (c : tie.Else1) → start1 c .args .y .size ≤ height (start1 c .args .row) H
+y-le c = omega (arith, c .if1 .left, c .before .before .row-height .ensures)
+
+y-good : (c : tie.Else1) → outside (height (start1 c .args .row) H) (joinOf (start1 c .args .y)) ≡ false
+y-good c =
+    let s = start1 c .args in
+    le-ltb (height (s .row) H) (natAbs (joinOf (s .y))) (rw (natAbs-join (s .y)) (y-le c))
+
+-- the parallel found
+parallel-is : (c : tie.After-unscaled) → c .unscaled .result .size ≡ parallelAt (start1 (c .before) .args .row) (start1 (c .before) .args .y .size)
+unfolding parallelAt
+parallel-is c =
+    let s = start1 (c .before) .args in
+    unscaled-size (c .unscaled .result) (s .y) (s .row .ky) (c .unscaled .ensures)
+
+usable : (c : tie.After-unscaled) → Usable (start1 (c .before) .args .row) (c .unscaled .result .size)
+usable c =
+    let s = start1 (c .before) in
+    record { columns = s .pre .0; latitude = rw (parallel-is c) (parallel-le (s .args .row) (s .pre .0) (s .args .y .size) (y-le (c .before))) }
+
+width-is : (c : tie.After-row-half-width) → c .row-half-width .result ≡ widthAt (start1 (c .before .before) .args .row) (joinOf (start1 (c .before .before) .args .y))
+unfolding widthAt
+width-is c =
+    let s = start1 (c .before .before) .args in
+    c .row-half-width .ensures ∙ ap (halfWidth (s .row)) (parallel-is (c .before) ∙ ap (parallelAt (s .row)) (sym (natAbs-join (s .y))))
+
+-- the second test passed: x is at most the half-width
+x-le : (c : tie.Else2) → start2 c .args .x .size ≤ c .before .before .row-half-width .result
+x-le c = omega (arith, c .if2 .left)
+
+x-good : (c : tie.Else2) → outside (widthAt (start2 c .args .row) (joinOf (start2 c .args .y))) (joinOf (start2 c .args .x)) ≡ false
+x-good c =
+    let s = start2 c .args in
+    le-ltb (widthAt (s .row) (joinOf (s .y))) (natAbs (joinOf (s .x))) (rw (← width-is (c .before .before), natAbs-join (s .x)) (x-le c))
+
+difference-small : (c : tie.After-unscaled2) → c .unscaled2 .result .size ≤ N
+difference-small c =
+    let x = start2 (c .before) .args .x in
+    let w = c .before .before .before .row-half-width .result in
+    rw (unscaled-size (c .unscaled2 .result) x w (c .unscaled2 .ensures)) (unscaled-le w (x .size) (x-le (c .before)))
+
+-- the longitude, by the difference found
+longitude-is : (c : tie.After-sum) → joinOf (c .sum .result) ≡ wrap (joinOf (start2 (c .before .before) .args .central) +ℤ differenceAt (widthAt (start2 (c .before .before) .args .row) (joinOf (start2 (c .before .before) .args .y))) (joinOf (start2 (c .before .before) .args .x)))
+longitude-is c =
+    let s = start2 (c .before .before) .args in
+    let r = c .before .before .before .before in
+    c .sum .ensures
+    ∙ ap (λ (d : ℤ). wrap (joinOf (s .central) +ℤ d))
+    (c .before .unscaled2 .ensures
+    ∙ ap (λ (w : ℕ). nearestSigned (joinOf (s .x) *ℤ pos N) w) (width-is r)
+    ∙ sym (difference-is (widthAt (s .row) (joinOf (s .y))) (joinOf (s .x))))
+
+row-height-requires : tie.Need-row-height-requires
+row-height-requires c κs = search needs
+
+returns : tie.Need-returns
+unfolding unless
+returns c =
+    let s = c .before .before .before .args in
+    let t = lt-ltb (height (s .row) H) (natAbs (joinOf (s .y))) (rw (natAbs-join (s .y)) (omega (arith, c .if1 .taken, c .before .before .row-height .ensures))) in
+    rw t
+
+unscaled-requires : tie.Need-unscaled-requires
+unscaled-requires c κs = omega (arith, y-le c, height-le (start1 c .args .row) H (omega arith))
+
+row-half-width-requires : tie.Need-row-half-width-requires
+row-half-width-requires c κs = usable c
+
+returns-2 : tie.Need-returns-2
+unfolding unless
+returns-2 c =
+    let r = c .before .before in
+    let s = start1 (r .before .before) .args in
+    let t = lt-ltb (widthAt (s .row) (joinOf (s .y))) (natAbs (joinOf (s .x))) (rw (← width-is r, natAbs-join (s .x)) (omega (arith, c .if2 .taken))) in
+    rw (y-good (r .before .before), t)
+
+unscaled-requires-2 : tie.Need-unscaled-requires-2
+unscaled-requires-2 c κs = x-le c
+
+sum-requires : tie.Need-sum-requires
+sum-requires c κs = (start2 (c .before) .pre .1, difference-small c)
+
+pair-requires : tie.Need-pair-requires
+pair-requires c κs =
+    let s = start2 (c .before .before) in
+    let d = c .before .unscaled2 .result in
+    let l = longitude-le (joinOf (s .args .central)) (joinOf d) (rw (natAbs-join (s .args .central)) (s .pre .1)) (rw (natAbs-join d) (difference-small (c .before))) in
+    let e = size-is (c .sum .result) (c .sum .ensures) in
+    let u = usable (c .before .before .before .before .before) .latitude in
+    (omega arith, omega arith)
+
+returns-3 : tie.Need-returns-3
+unfolding unless positionOf
+returns-3 c =
+    let c2 = c .before .before .before in
+    let u = c2 .before .before .before in
+    let s = start2 c2 .args in
+    rw (y-good (u .before), x-good c2)
+    (c .pair .ensures ∙ ap₂ (λ (x y : ℤ). given (x, y)) (longitude-is (c .before)) (u .unscaled .ensures ∙ sym (latitude-is (s .row) (joinOf (s .y)))))
+
+pub position-spec : {M : Type 1} → statement M
+position-spec =
+    tie.close
+    (tie.spec
+    row-height-requires
+    returns
+    unscaled-requires
+    row-half-width-requires
+    returns-2
+    unscaled-requires-2
+    sum-requires
+    pair-requires
+    returns-3)

@@ -1,0 +1,151 @@
+//! Requests at the edges: the limits of each number and what lies on either side of them.
+use crate::map::{row_latitude, row_width, row_y, HALF_TURN, RIGHT_ANGLE};
+use crate::requests::{back_and_there, place, position, there_and_back, width, DEGREE};
+use crate::table::{row_of, Row};
+
+const LEAST: i128 = i32::MIN as i128;
+const GREATEST: i128 = i32::MAX as i128;
+
+/// Numbers outside every range, some of them past 32 bits.
+const FAR: [i128; 10] = [
+    LEAST,
+    LEAST + 1,
+    LEAST - 1,
+    GREATEST,
+    GREATEST + 1,
+    4294967296 + 5,
+    -4294967296 - 5,
+    4000000000,
+    1 << 80,
+    -(1 << 80),
+];
+
+const ODD_KINDS: [i128; 11] = [0, 11, 127, 128, 255, 256, 257, 266, -1, -256, 4294967297];
+
+/// 89.99 degrees.
+const NEAR_THE_POLE: i128 = RIGHT_ANGLE - DEGREE / 100;
+
+const CENTRALS: [i128; 6] = [0, 1, -1, HALF_TURN, -HALF_TURN, 170 * DEGREE];
+
+/// The sizes with both signs, each number once.
+fn signed(sizes: &[i128]) -> Vec<i128> {
+    let mut all: Vec<i128> = sizes.iter().flat_map(|size| [-size, *size]).collect();
+    all.sort();
+    all.dedup();
+    all
+}
+
+fn latitudes() -> Vec<i128> {
+    let pole = [RIGHT_ANGLE - 1, RIGHT_ANGLE, RIGHT_ANGLE + 1];
+    signed(&[&[0, 1, 60 * DEGREE, NEAR_THE_POLE], &pole[..]].concat())
+}
+
+pub fn widths() -> Vec<String> {
+    let mut lines = Vec::new();
+    for kind in 0..=11 {
+        for degrees in -91..=91 {
+            lines.push(width(kind, degrees * DEGREE));
+        }
+    }
+    for kind in [1, 2, 9, 10].iter().chain(&ODD_KINDS) {
+        for latitude in latitudes().iter().chain(&FAR) {
+            lines.push(width(*kind, *latitude));
+        }
+    }
+    lines
+}
+
+/// Longitudes at the edges of the map and of the central meridian's half turn.
+fn longitudes(central: i128) -> Vec<i128> {
+    let edges = signed(&[0, 1, HALF_TURN - 1, HALF_TURN, HALF_TURN + 1]);
+    let about_central = edges.iter().map(|d| central + d);
+    let mut all: Vec<i128> = edges.iter().copied().chain(about_central).collect();
+    all.sort();
+    all.dedup();
+    all
+}
+
+pub fn positions() -> Vec<String> {
+    let mut lines = Vec::new();
+    let mut latitude = latitudes().into_iter().cycle();
+    for kind in 1..=10 {
+        for central in CENTRALS {
+            for longitude in longitudes(central) {
+                lines.extend(there_and_back(kind, central, longitude, 60 * DEGREE));
+                let other = latitude.next().expect("an endless list");
+                lines.push(position(kind, central, longitude, other));
+            }
+        }
+        for latitude in latitudes() {
+            for longitude in [HALF_TURN, -HALF_TURN, 1] {
+                lines.extend(there_and_back(kind, 0, longitude, latitude));
+            }
+        }
+    }
+    lines
+}
+
+/// y at the latitudes that matter, and one unit to either side.
+fn heights(row: &Row) -> Vec<i128> {
+    let at = [0, 60 * DEGREE, NEAR_THE_POLE, RIGHT_ANGLE].map(|latitude| row_y(row, latitude));
+    signed(&at.map(|y| [y - 1, y, y + 1]).concat())
+}
+
+/// x at the edges of the row found at y, and at the Equator's.
+fn breadths(row: &Row, y: i128) -> Vec<i128> {
+    let w = row_width(row, row_latitude(row, y).abs().min(RIGHT_ANGLE));
+    let equator = row_width(row, 0);
+    signed(&[0, 1, 2, w - 2, w - 1, w, w + 1, equator, equator + 1])
+}
+
+pub fn places() -> Vec<String> {
+    let mut lines = Vec::new();
+    let mut centrals = CENTRALS.into_iter().cycle();
+    for kind in 1..=10 {
+        let row = row_of(kind).expect("a kind of the table");
+        for y in heights(&row) {
+            for x in breadths(&row, y) {
+                let central = centrals.next().expect("an endless list");
+                lines.extend(back_and_there(kind, central, x, y));
+            }
+        }
+    }
+    lines
+}
+
+/// Good and bad numbers in every mixture, which shows the order of the refusals.
+fn mixtures() -> Vec<String> {
+    let mut lines = Vec::new();
+    for kind in [1, 9, 0, 11] {
+        for central in [0, -HALF_TURN - 1, LEAST] {
+            for longitude in [0, HALF_TURN + 1, GREATEST] {
+                for latitude in [0, -RIGHT_ANGLE - 1, LEAST] {
+                    lines.push(position(kind, central, longitude, latitude));
+                }
+            }
+            for x in [0, -400_000_000, LEAST] {
+                for y in [0, 200_000_000, GREATEST] {
+                    lines.push(place(kind, central, x, y));
+                }
+            }
+        }
+    }
+    lines
+}
+
+pub fn refusals() -> Vec<String> {
+    let mut lines = mixtures();
+    for far in FAR.iter().chain(&[HALF_TURN + 1, -HALF_TURN - 1]) {
+        for kind in [1, 9] {
+            for [central, first, second] in [[*far, 0, 0], [0, *far, 0], [0, 0, *far]] {
+                lines.push(position(kind, central, first, second));
+                lines.push(place(kind, central, first, second));
+            }
+        }
+    }
+    for kind in ODD_KINDS {
+        lines.push(position(kind, 1, 2, 3));
+        lines.push(place(kind, 1, 2, 3));
+    }
+    lines
+}
