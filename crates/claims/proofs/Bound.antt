@@ -16,7 +16,7 @@ use Rattle.projection.specs.Parallel.{radicand, rootBy, rootAt, numerator, half
 use Rattle.projection.specs.Columns.{combined, Usable, idle}
 use Rattle.projection.proofs.Widths.{combined-is, numerator-whole, width-near}
 use Rattle.claims.specs.ExactRoot.{NearRoot}
-use Rattle.claims.specs.Demands.{slope, rest, WithinOne}
+use Rattle.claims.specs.Demand2.{slope, rest, WithinOne}
 use Rattle.claims.proofs.Roots.{AtMost, AtLeast, near-root}
 
 -- x times a M + b q, each product with x inside

@@ -1,2 +1,9 @@
 pub mod Roots
 pub mod Bound
+pub mod Refusals
+pub mod Accepted
+pub mod Turning
+pub mod Wraps
+pub mod Returning
+pub mod Resending
+pub mod Sharing

@@ -1,49 +1,9 @@
--- The customer's demands, as far as the product goes: demand 2's bound on the half-width, and what it rests on.
-use mathlib.Core.Path.{_≡_}
-use Prim.Native.Nat.{ℕ, _*_, _≤_, _<_}
-use lib.Dec.{T}
-use lib.IntN.{ℤ, pos, natAbs, _+ℤ_, _-ℤ_, _*ℤ_}
-use Rattle.projection.specs.declared.table.Row.{Row}
-use Rattle.projection.specs.declared.table.Method.{Method}
-use Rattle.projection.specs.declared.table.Method.the-variants.{Unused, Root, Quotient}
-use Rattle.projection.specs.Angle.{N, H, M}
-use Rattle.projection.specs.Table.{rowOf}
-use Rattle.projection.specs.Parallel.{radicand, rootAt, numerator, halfWidth}
-use Rattle.projection.specs.Refusal.{isKind}
-use Rattle.claims.specs.ExactRoot.{NearRoot}
+-- The customer's demands, as far as the product goes.
+use Rattle.claims.specs.Demand1.{Demand1}
+use Rattle.claims.specs.Demand2.{Demand2}
+use Rattle.claims.specs.Demand3.{Demand3, numbers}
 
--- KX b, and 2 M W - KX a M
-abbrev pub slope : Row → ℤ
-slope r = r .b *ℤ pos (r .kx)
-
-abbrev pub rest : Row → ℕ → ℤ
-rest r p = pos (2 * M * halfWidth r p) -ℤ r .a *ℤ pos (r .kx * M)
-
--- W differs by less than 1 from KX (a M + b q) / (2 M) with the exact root of 1024 s in the place of q, or the exact
--- quotient 32 s / N. Times 2 M: KX b q is less than 2 M away from 2 M W - KX a M. The quotient's side is times N too
-abbrev pub ByRoot : Row → ℕ → Type 0
-ByRoot r p = NearRoot (slope r) (1024 * radicand r p) (rest r p) (2 * M)
-
-abbrev pub ByQuotient : Row → ℕ → Type 0
-ByQuotient r p = natAbs (rest r p *ℤ pos N -ℤ slope r *ℤ pos (32 * radicand r p)) < 2 * M * N
-
-abbrev pub WithinOne : Method → Row → ℕ → Type 0
-WithinOne Unused r p = ByRoot r p
-WithinOne Root r p = ByRoot r p
-WithinOne Quotient r p = ByQuotient r p
-
--- what is claimed of a row at a latitude of size p
-pub record Parallel (r : Row) (p : ℕ) : Type 0 where
-  -- s and a M + b q are what document 01 says: the definitions drop no sign
-  pub s-whole : pos (radicand r p) ≡ pos (N * N) +ℤ r .e *ℤ pos (p * p)
-  pub sum-whole : pos (numerator r (rootAt r p)) ≡ r .a *ℤ pos M +ℤ r .b *ℤ pos (rootAt r p)
-  -- demand 2's bound
-  pub bound : WithinOne (r .method) r p
-  -- sizes that the bounds of demand 3 rest on
-  pub width-small : halfWidth r p < 5 * N
-  pub ky-low : N < r .ky
-  pub ky-high : r .ky < 5 * N
-
--- for every kind, and every latitude up to a pole
 pub record Demands : Type 0 where
-  pub parallels : (kind p : ℕ) → T (isKind kind) → p ≤ H → Parallel (rowOf kind) p
+  pub refusals : Demand1
+  pub half-widths : Demand2
+  pub laws-of-numbers : Demand3 numbers

@@ -3,8 +3,12 @@ use mathlib.Core.Path.{_≡_}
 use mathlib.Core.List.{List, [], _∷_, map}
 use Prim.Native.Nat.{ℕ}
 use lib.IntN.{ℤ, pos}
-use Rattle.projection.specs.Table.{rowOf}
-use Rattle.projection.specs.Parallel.{halfWidth, height}
+use Rattle.projection.specs.Table.{neg, rowOf}
+use Rattle.projection.specs.Parallel.{halfWidth}
+use Rattle.projection.specs.Longitude.{differenceOf}
+use Rattle.projection.specs.Forward.{xOf, yOf}
+use Rattle.projection.specs.Refusal.{Outcome, refused, given}
+use Rattle.projection.specs.Answer.{forwardOf}
 
 -- an example's number, what the definitions give, and what document 01 writes
 pub record Example : Type 0 where
@@ -20,11 +24,22 @@ abbrev pub width : ℕ → ℕ → ℤ
 width kind p = pos (halfWidth (rowOf kind) p)
 
 abbrev pub y : ℕ → ℕ → ℤ
-y kind p = pos (height (rowOf kind) p)
+y kind p = yOf (rowOf kind) (pos p)
+
+-- x and y of a position; none where it is refused
+abbrev pub xy : Outcome (ℤ × ℤ) → List ℤ
+xy (given p) = p .0 ∷ p .1 ∷ []
+xy (refused n) = []
+
+-- the difference of a longitude from a central meridian of 170 degrees
+abbrev pub from170 : ℤ → ℤ
+from170 longitude = differenceOf (pos 61200000) longitude
 
 unfoldable pub examples : List Example
 examples =
-    example 3 (width 6 32400000 ∷ y 6 32400000 ∷ []) (pos 136034953 ∷ pos 157079633 ∷ [])
+    example 1 (xy (forwardOf 1 (pos 0) (pos 32400000) (pos 16200000))) (pos 157079633 ∷ pos 78539816 ∷ [])
+    ∷ example 2 (xy (forwardOf 1 (pos 0) (neg 32400000) (neg 16200000))) (neg 157079633 ∷ neg 78539816 ∷ [])
+    ∷ example 3 (width 6 32400000 ∷ y 6 32400000 ∷ []) (pos 136034953 ∷ pos 157079633 ∷ [])
     ∷ example 4 (width 2 19440000 ∷ y 2 19440000 ∷ []) (pos 251327412 ∷ pos 94247780 ∷ [])
     ∷ example 5 (width 2 25920000 ∷ y 2 25920000 ∷ []) (pos 188495559 ∷ pos 125663706 ∷ [])
     ∷ example 6 (width 5 0 ∷ width 5 32400000 ∷ []) (pos 265300086 ∷ pos 132650043 ∷ [])
@@ -32,6 +47,8 @@ examples =
     ∷ example 8 (width 8 16200000 ∷ width 8 32400000 ∷ []) (pos 219329974 ∷ pos 125331414 ∷ [])
     ∷ example 9 (width 9 0 ∷ width 9 32400000 ∷ []) (pos 318387849 ∷ pos 0 ∷ [])
     ∷ example 10 (width 10 32400000 ∷ []) (pos 159193925 ∷ [])
+    ∷ example 11 (from170 (neg 61200000) ∷ from170 (neg 3600000) ∷ xOf (halfWidth (rowOf 1) 0) (from170 (neg 3600000)) ∷ [])
+    (pos 7200000 ∷ neg 64800000 ∷ neg 314159265 ∷ [])
     ∷ []
 
 -- every example is as document 01 writes it

@@ -1,6 +1,5 @@
 -- What inverse finds at a place: the parallel, its half-width and the difference.
-use mathlib.Core.Path.{_≡_, refl, sym}
-use mathlib.Core.Bool.{cond}
+use mathlib.Core.Path.{_≡_, sym, _∙_}
 use Prim.Native.Nat.{ℕ, zero, suc, _*_, _≤_, _<_}
 use native.Mathlib.Omega.{arith}
 use lib.Dec.{eqb, eqb·suc-zero}
@@ -15,11 +14,8 @@ use Rattle.projection.specs.Angle.{N, H}
 use Rattle.projection.specs.Parallel.{height}
 use Rattle.projection.specs.Inverse.{parallelAt, latitudeAt, differenceAt}
 use Rattle.projection.specs.Columns.{Columns}
-use Rattle.projection.proofs.Scales.{scaled-le}
-
-pub height-near : (r : Row) (p : ℕ) → Near (r .ky * p) N (height r p)
-unfolding height
-height-near r p = near (r .ky * p) N (omega arith)
+use Rattle.projection.proofs.Scales.{unscaled-zero}
+use Rattle.projection.proofs.Places.{height-near}
 
 pub parallel-near : (r : Row) → Columns r → (y : ℕ) → Near (y * N) (r .ky) (parallelAt r y)
 unfolding parallelAt
@@ -28,10 +24,6 @@ parallel-near r c y = near (y * N) (r .ky) (omega (arith, c .ky-low))
 -- a y up to the pole's lies on a parallel
 pub parallel-le : (r : Row) → Columns r → (y : ℕ) → y ≤ height r H → parallelAt r y ≤ H
 parallel-le r c y h = return-le N (r .ky) H (height r H) y (parallelAt r y) (c .ky-low) (height-near r H) h (parallel-near r c y)
-
-pub height-le : (r : Row) (p : ℕ) → p ≤ N → height r p ≤ r .ky
-unfolding height
-height-le r p h = scaled-le (r .ky) p h
 
 -- latitude and difference as roundings of the signed number
 pub latitude-is : (r : Row) (y : ℤ) → latitudeAt r y ≡ nearestSigned (y *ℤ pos N) (r .ky)
@@ -46,3 +38,10 @@ pub difference-is : (w : ℕ) (x : ℤ) → differenceAt w x ≡ nearestSigned (
 unfolding differenceAt
 difference-is zero x = sym (by-zero (x *ℤ pos N))
 difference-is (suc w) x = rw eqb·suc-zero
+
+pub difference-on : (w : ℕ) (x : ℤ) → differenceAt w x ≡ onSize (λ (n : ℕ). nearest (n * N) w) x
+difference-on w x = difference-is w x ∙ scaled-nearest x N w
+
+pub parallel-zero : (r : Row) → parallelAt r 0 ≡ 0
+unfolding parallelAt
+parallel-zero r = unscaled-zero (r .ky)

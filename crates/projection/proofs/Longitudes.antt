@@ -12,7 +12,7 @@ use Rattle.projection.specs.Longitude.{aTurnBack, wrap, differenceOf, lo
 
 -- the three ways from z to its wrap r
 pub data Wrapped (z r : ℤ) : Type 0 where
-  stay : natAbs z ≤ N → r ≡ z → Wrapped z r
+  stay : natAbs z ≤ N → plus r + minus z ≡ minus r + plus z → Wrapped z r
   down : N < plus z → plus r + (2 * N + minus z) ≡ minus r + plus z → Wrapped z r
   up : N < minus z → plus r + minus z ≡ minus r + (2 * N + plus z) → Wrapped z r
 
@@ -26,7 +26,7 @@ wrapped z = go (outside N z) refl
   where
     go : (b : Bool) → outside N z ≡ b → Wrapped z (cond b (aTurnBack z) z)
     go true e = a-turn-back z (ltb-true N (natAbs z) e)
-    go false e = stay (ltb-false N (natAbs z) e) refl
+    go false e = stay (ltb-false N (natAbs z) e) (omega arith)
 
 pub wrap-near : (z : ℤ) → natAbs z ≤ N → wrap z ≡ z
 unfolding wrap
@@ -55,7 +55,7 @@ pub wrap-le : (z : ℤ) → natAbs z ≤ 3 * N → natAbs (wrap z) ≤ N
 wrap-le z h = go (wrapped z)
   where
     go : Wrapped z (wrap z) → natAbs (wrap z) ≤ N
-    go (stay a e) = rw e a
+    go (stay a e) = let p = parts z in let q = parts (wrap z) in omega arith
     go (down a e) = let p = parts z in let q = parts (wrap z) in omega arith
     go (up a e) = let p = parts z in let q = parts (wrap z) in omega arith
 

@@ -21,17 +21,25 @@ abbrev pub meaning : Answer → Outcome (ℤ × ℤ)
 meaning (Pair first second) = given (first, second)
 meaning (PairRefused n) = refused n
 
+-- the order of the refusals, call by call
+abbrev pub widthOrder : ℕ → ℤ → List Refusal
+widthOrder kind latitude = badKind kind ∷ badLatitude latitude ∷ []
+
+abbrev pub forwardOrder : ℕ → ℤ → ℤ → ℤ → List Refusal
+forwardOrder kind central longitude latitude = badKind kind ∷ badCentral central ∷ badLongitude longitude ∷ badLatitude latitude ∷ []
+
+abbrev pub inverseOrder : ℕ → ℤ → ℤ → ℤ → List Refusal
+inverseOrder kind central x y = badKind kind ∷ badCentral central ∷ badY (rowOf kind) y ∷ badX (rowOf kind) x y ∷ []
+
 -- the half-width of a kind at a latitude
 unfoldable pub widthOf : ℕ → ℤ → Outcome ℕ
-widthOf kind latitude = unless (badKind kind ∷ badLatitude latitude ∷ []) (halfWidth (rowOf kind) (natAbs latitude))
+widthOf kind latitude = unless (widthOrder kind latitude) (halfWidth (rowOf kind) (natAbs latitude))
 
 -- a position sent forward: x and y
 unfoldable pub forwardOf : ℕ → ℤ → ℤ → ℤ → Outcome (ℤ × ℤ)
 forwardOf kind central longitude latitude =
-    unless (badKind kind ∷ badCentral central ∷ badLongitude longitude ∷ badLatitude latitude ∷ [])
-    (placeOf (rowOf kind) central longitude latitude)
+    unless (forwardOrder kind central longitude latitude) (placeOf (rowOf kind) central longitude latitude)
 
 -- a place sent back: longitude and latitude
 unfoldable pub inverseOf : ℕ → ℤ → ℤ → ℤ → Outcome (ℤ × ℤ)
-inverseOf kind central x y =
-    unless (badKind kind ∷ badCentral central ∷ badY (rowOf kind) y ∷ badX (rowOf kind) x y ∷ []) (positionOf (rowOf kind) central x y)
+inverseOf kind central x y = unless (inverseOrder kind central x y) (positionOf (rowOf kind) central x y)

@@ -6,7 +6,7 @@ use native.Mathlib.Nat.{zero-mul, le-refl, lt-of-le-of-lt}
 use native.Mathlib.Omega.{arith}
 use borrow.Author.Tests.{ltb-true, ltb-false}
 use lib.Dec.{ltb}
-use lib.IntN.{ℤ, pos, negsuc, negℤ, natAbs, subℕ, _+ℤ_, _-ℤ_, _*ℤ_, negℤ-negℤ, +ℤ-idl}
+use lib.IntN.{ℤ, pos, negsuc, negℤ, natAbs, subℕ, _+ℤ_, _-ℤ_, _*ℤ_, negℤ-negℤ, negℤ-+ℤ, +ℤ-idl}
 use lib.Signed.{mag}
 use mir.Syntax.{Width}
 use mir.Val.{SFits, hbits, toZ, ofZ}
@@ -126,7 +126,29 @@ pub on-sign : (f : ℕ → ℕ) → f 0 ≡ 0 → (b : Bool) (n : ℕ) → onSiz
 on-sign f h false n = refl
 on-sign f h true n = on-neg f h (pos n)
 
--- so is the rounding of a multiple
+-- there and back, exactly or to within k
+pub on-back : (f g : ℕ → ℕ) → g 0 ≡ 0 → (z : ℤ) → g (f (natAbs z)) ≡ natAbs z → onSize g (onSize f z) ≡ z
+on-back f g o (pos n) h = ap pos h
+on-back f g o (negsuc n) h = on-neg g o (pos (f (suc n))) ∙ ap (λ (m : ℕ). negℤ (pos m)) h
+
+apart-sizes : (a b : ℤ) (k : ℕ) → plus a ≤ plus b + k → plus b ≤ plus a + k → minus a ≡ 0 → minus b ≡ 0 → natAbs (a -ℤ b) ≤ k
+apart-sizes a b k h l e d =
+    let s = sum a (negℤ b) in
+    let p = parts (a -ℤ b) in
+    let m = plus-neg b in
+    let n = minus-neg b in
+    omega arith
+
+pub neg-less : (a b : ℤ) → natAbs (negℤ a -ℤ negℤ b) ≡ natAbs (a -ℤ b)
+neg-less a b = ap natAbs (sym (negℤ-+ℤ a (negℤ b))) ∙ natAbs-neg (a -ℤ b)
+
+pub on-within : (f g : ℕ → ℕ) (k : ℕ) → g 0 ≡ 0 → (z : ℤ) → (g (f (natAbs z)) ≤ natAbs z + k) × (natAbs z ≤ g (f (natAbs z)) + k) → natAbs (onSize g (onSize f z) -ℤ z) ≤ k
+on-within f g k o (pos n) h = apart-sizes (pos (g (f n))) (pos n) k (h .0) (h .1) refl refl
+on-within f g k o (negsuc n) h =
+    let m = pos (g (f (suc n))) in
+    rw (on-neg g o (pos (f (suc n))), neg-less m (pos (suc n))) (apart-sizes m (pos (suc n)) k (h .0) (h .1) refl refl)
+
+-- the rounding of a multiple is such a function
 pub nearest-scaled : (k : ℕ) (z : ℤ) (d : ℕ) → nearestSigned (pos k *ℤ z) d ≡ onSize (λ (n : ℕ). nearest (k * n) d) z
 nearest-scaled k (pos n) d = refl
 nearest-scaled k (negsuc n) d = on-neg (λ (m : ℕ). nearest m d) (nearest-zero d) (pos (k * suc n))

@@ -17,7 +17,8 @@ use Rattle.projection.specs.Refusal.{given, unless}
 use Rattle.projection.specs.Columns.{Usable}
 use Rattle.projection.proofs.Longitudes.{longitude-le}
 use Rattle.projection.proofs.Scales.{unscaled-le, unscaled-size}
-use Rattle.projection.proofs.Found.{parallel-le, height-le, latitude-is, difference-is}
+use Rattle.projection.proofs.Places.{height-le}
+use Rattle.projection.proofs.Found.{parallel-le, latitude-is, difference-is}
 use Rattle.projection.proofs.Judged.{size-is}
 use Rattle.projection.proofs.position.position.Statement.{statement}
 use Rattle.projection.proofs.position.position.Tie as tie
@@ -96,7 +97,9 @@ unscaled-requires : tie.Need-unscaled-requires
 unscaled-requires c κs = omega (arith, y-le c, height-le (start1 c .args .row) H (omega arith))
 
 row-half-width-requires : tie.Need-row-half-width-requires
-row-half-width-requires c κs = usable c
+row-half-width-requires c κs =
+    let u = usable c in
+    record { columns = u .columns; latitude = omega (arith, u .latitude) }
 
 returns-2 : tie.Need-returns-2
 unfolding unless
@@ -107,7 +110,7 @@ returns-2 c =
     rw (y-good (r .before .before), t)
 
 unscaled-requires-2 : tie.Need-unscaled-requires-2
-unscaled-requires-2 c κs = x-le c
+unscaled-requires-2 c κs = omega (arith, x-le c)
 
 sum-requires : tie.Need-sum-requires
 sum-requires c κs = (start2 (c .before) .pre .1, difference-small c)

@@ -1,0 +1,81 @@
+-- What forward and inverse accept, by the ranges of document 01.
+use mathlib.Core.Bool.{Bool, true, false, not}
+use mathlib.Core.Path.{_≡_, refl, sym, _∙_}
+use Prim.Native.Nat.{ℕ, _≤_}
+use borrow.Author.Tests.{ltb-false, le-ltb}
+use lib.Dec.{T}
+use lib.IntN.{ℤ, natAbs}
+use Rattle.projection.specs.Angle.{N, H}
+use Rattle.projection.specs.Table.{rowOf}
+use Rattle.projection.specs.Parallel.{height}
+use Rattle.projection.specs.Forward.{placeOf}
+use Rattle.projection.specs.Inverse.{widthAt, positionOf}
+use Rattle.projection.specs.Refusal.{given, isKind}
+use Rattle.projection.specs.Answer.{forwardOrder, inverseOrder, forwardOf, inverseOf}
+use Rattle.projection.proofs.Judged.{not-false}
+use Rattle.claims.proofs.Refusals.{unless-none, unless-given}
+
+kind-true : (b : Bool) → not b ≡ false → T b
+kind-true b e = rw (not-false b e) tt
+
+kind-false : (b : Bool) → T b → not b ≡ false
+kind-false true t = refl
+kind-false false t = absurd t
+
+-- a position that forward accepts
+pub record Position (kind : ℕ) (c l f : ℤ) : Type 0 where
+  pub kind-good : T (isKind kind)
+  pub c-le : natAbs c ≤ N
+  pub l-le : natAbs l ≤ N
+  pub f-le : natAbs f ≤ H
+
+pub position : (kind : ℕ) (c l f : ℤ) (p : ℤ × ℤ) → forwardOf kind c l f ≡ given p → Position kind c l f × (p ≡ placeOf (rowOf kind) c l f)
+unfolding forwardOf
+position kind c l f p e =
+    let g = unless-given (forwardOrder kind c l f) (placeOf (rowOf kind) c l f) p e in
+    let n = g .0 in (
+      record {
+        kind-good = kind-true (isKind kind) (n .0);
+        c-le = ltb-false N (natAbs c) (n .1 .0);
+        l-le = ltb-false N (natAbs l) (n .1 .1 .0);
+        f-le = ltb-false H (natAbs f) (n .1 .1 .1 .0);
+      },
+      g .1,
+    )
+
+pub accepts : (kind : ℕ) (c l f : ℤ) → Position kind c l f → forwardOf kind c l f ≡ given (placeOf (rowOf kind) c l f)
+unfolding forwardOf
+accepts kind c l f p =
+    unless-none (forwardOrder kind c l f) (placeOf (rowOf kind) c l f)
+    (kind-false (isKind kind) (p .kind-good), (le-ltb N (natAbs c) (p .c-le), (le-ltb N (natAbs l) (p .l-le), (le-ltb H (natAbs f) (p .f-le), tt))))
+
+-- a place that inverse accepts
+pub record Place (kind : ℕ) (c x y : ℤ) : Type 0 where
+  pub kind-good : T (isKind kind)
+  pub c-le : natAbs c ≤ N
+  pub y-le : natAbs y ≤ height (rowOf kind) H
+  pub x-le : natAbs x ≤ widthAt (rowOf kind) y
+
+pub place : (kind : ℕ) (c x y : ℤ) (p : ℤ × ℤ) → inverseOf kind c x y ≡ given p → Place kind c x y × (p ≡ positionOf (rowOf kind) c x y)
+unfolding inverseOf
+place kind c x y p e =
+    let r = rowOf kind in
+    let g = unless-given (inverseOrder kind c x y) (positionOf r c x y) p e in
+    let n = g .0 in (
+      record {
+        kind-good = kind-true (isKind kind) (n .0);
+        c-le = ltb-false N (natAbs c) (n .1 .0);
+        y-le = ltb-false (height r H) (natAbs y) (n .1 .1 .0);
+        x-le = ltb-false (widthAt r y) (natAbs x) (n .1 .1 .1 .0);
+      },
+      g .1,
+    )
+
+pub admits : (kind : ℕ) (c x y : ℤ) → Place kind c x y → inverseOf kind c x y ≡ given (positionOf (rowOf kind) c x y)
+unfolding inverseOf
+admits kind c x y p =
+    let r = rowOf kind in
+    unless-none (inverseOrder kind c x y) (positionOf r c x y) (
+      kind-false (isKind kind) (p .kind-good),
+      (le-ltb N (natAbs c) (p .c-le), (le-ltb (height r H) (natAbs y) (p .y-le), (le-ltb (widthAt r y) (natAbs x) (p .x-le), tt))),
+    )

@@ -1,0 +1,118 @@
+-- Back and forward: the position of an accepted place is accepted, and comes back to within 2 units.
+use mathlib.Core.Logic.{_⊎_, inl, inr, _≢_}
+use mathlib.Core.Path.{_≡_, sym, ap, subst, _∙_}
+use Prim.Native.Nat.{ℕ, zero, suc, _+_, _*_, _≤_, _<_}
+use native.Mathlib.Omega.{arith}
+use lib.IntN.{ℤ, pos, natAbs, _+ℤ_, _-ℤ_, +ℤ-comm}
+use Rattle.whole.specs.Nearest.{nearest}
+use Rattle.whole.specs.Signed.{onSize}
+use Rattle.whole.proofs.Rounding.{near, nearest-zero}
+use Rattle.whole.proofs.Scales.{back-within}
+use Rattle.whole.proofs.Signs.{natAbs-on, on-within}
+use Rattle.projection.specs.declared.table.Row.{Row}
+use Rattle.projection.specs.Angle.{N, H}
+use Rattle.projection.specs.Table.{rowOf}
+use Rattle.projection.specs.Parallel.{halfWidth, height}
+use Rattle.projection.specs.Longitude.{wrap, differenceOf, longitudeOf}
+use Rattle.projection.specs.Forward.{xOf, yOf, placeOf}
+use Rattle.projection.specs.Inverse.{parallelAt, latitudeAt, widthAt, differenceAt, positionOf}
+use Rattle.projection.specs.Refusal.{given}
+use Rattle.projection.specs.Columns.{Columns}
+use Rattle.projection.specs.Answer.{inverseOf}
+use Rattle.projection.proofs.Rows.{columns}
+use Rattle.projection.proofs.Widths.{width-small}
+use Rattle.projection.proofs.Longitudes.{longitude-le}
+use Rattle.projection.proofs.Scales.{scaled-zero, unscaled-le}
+use Rattle.projection.proofs.Places.{x-on, y-on, height-zero, height-near}
+use Rattle.projection.proofs.Found.{parallel-near, parallel-le, difference-on}
+use Rattle.claims.specs.Demand3.{numbers, Close, Resends}
+use Rattle.claims.proofs.Accepted.{Position, accepts, Place, place}
+use Rattle.claims.proofs.Returning.{not-zero}
+use Rattle.claims.proofs.Wraps.{Ends, there-and-back}
+
+-- a pointed pole too: there w is 0, and so is x
+size-close : (w x : ℕ) → x ≤ w → w < 5 * N → (nearest (w * nearest (x * N) w) N ≤ x + 2) × (x ≤ nearest (w * nearest (x * N) w) N + 2)
+size-close zero x h l = let z = near (0 * nearest (x * N) 0) N (omega arith) in (omega arith, omega arith)
+size-close (suc w) x h l =
+    let d = nearest (x * N) (suc w) in
+    back-within N (suc w) x d (nearest (suc w * d) N) l (near (x * N) (suc w) (omega arith)) (near (suc w * d) N (omega arith))
+
+module _ (kind : ℕ) (c x y : ℤ) (p : Place kind c x y) where
+  abbrev r : Row
+  r = rowOf kind
+
+  abbrev w : ℕ
+  w = widthAt r y
+
+  abbrev d : ℤ
+  d = differenceAt w x
+
+  abbrev l : ℤ
+  l = longitudeOf c d
+
+  abbrev f : ℤ
+  f = latitudeAt r y
+
+  cols : Columns r
+  cols = columns kind (p .kind-good)
+
+  latitude-size : natAbs f ≡ parallelAt r (natAbs y)
+  unfolding latitudeAt
+  latitude-size = natAbs-on (parallelAt r) y
+
+  parallel-low : parallelAt r (natAbs y) ≤ H
+  parallel-low = parallel-le r cols (natAbs y) (p .y-le)
+
+  width-same : halfWidth r (natAbs f) ≡ w
+  unfolding widthAt
+  width-same = ap (halfWidth r) latitude-size
+
+  width-below : w < 5 * N
+  unfolding widthAt
+  width-below = width-small r (parallelAt r (natAbs y)) (record { columns = cols; latitude = parallel-low })
+
+  d-le : natAbs d ≤ N
+  d-le = rw (difference-on w x, natAbs-on (λ (n : ℕ). nearest (n * N) w) x) (unscaled-le w (natAbs x) (p .x-le))
+
+  here : Position kind c l f
+  here = record { kind-good = p .kind-good; c-le = p .c-le; l-le = longitude-le c d (p .c-le) d-le; f-le = rw latitude-size parallel-low }
+
+  y-close : Close (yOf r f) y
+  unfolding latitudeAt
+  y-close =
+      rw (y-on r f)
+      (omega (
+        arith,
+        on-within (parallelAt r) (height r) 2 (height-zero r) y
+            (back-within N (r .ky) (natAbs y) (parallelAt r (natAbs y)) (height r (parallelAt r (natAbs y))) (cols .ky-high) (parallel-near r cols (natAbs y))
+            (height-near r (parallelAt r (natAbs y)))),
+      ))
+
+  x-again : Close (xOf w d) x
+  x-again =
+      rw (x-on w d, difference-on w x)
+      (omega (arith, on-within (λ (n : ℕ). nearest (n * N) w) (λ (n : ℕ). nearest (w * n) N) 2 (scaled-zero w) x (size-close w (natAbs x) (p .x-le) width-below)))
+
+  x-close : Close (xOf (halfWidth r (natAbs f)) (differenceOf c l)) x ⊎ ((natAbs d ≡ N) × (c ≢ pos 0))
+  x-close = rw (width-same, +ℤ-comm c d) (go (there-and-back d c d-le (p .c-le)))
+    where
+      go : (wrap (wrap (d +ℤ c) -ℤ c) ≡ d) ⊎ Ends d c (wrap (wrap (d +ℤ c) -ℤ c)) → Close (xOf w (wrap (wrap (d +ℤ c) -ℤ c))) x ⊎ ((natAbs d ≡ N) × (c ≢ pos 0))
+      go (inl e) = inl (rw e x-again)
+      go (inr e) = inr (e .first, not-zero c (e .moved))
+
+  resends : Resends numbers kind c x y l f
+  unfolding placeOf
+  resends =
+      record {
+        x' = xOf (halfWidth r (natAbs f)) (differenceOf c l);
+        y' = yOf r f;
+        accepted = accepts kind c l f here;
+        y-close = y-close;
+        x-close = x-close;
+      }
+
+pub back-forward : (kind : ℕ) (c x y l f : ℤ) → inverseOf kind c x y ≡ given (l, f) → Resends numbers kind c x y l f
+unfolding positionOf
+back-forward kind c x y l f e =
+    let t = place kind c x y (l, f) e in
+    subst (λ (q : ℤ × ℤ). Resends numbers kind c x y (q .0) (q .1)) (sym (t .1)) (resends kind c x y (t .0))

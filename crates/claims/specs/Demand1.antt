@@ -1,0 +1,39 @@
+-- Demand 1: a refusal is the numbered one in document 01, given exactly when its condition holds and none earlier in the
+-- order there does. Else the answer is the one that document 01's rules give.
+use mathlib.Core.Bool.{true, false}
+use mathlib.Core.List.{List, [], _∷_, _++_}
+use mathlib.Core.Logic.{_↔_}
+use mathlib.Core.Path.{_≡_}
+use Prim.Native.Nat.{ℕ}
+use lib.IntN.{ℤ, natAbs}
+use Rattle.projection.specs.Table.{rowOf}
+use Rattle.projection.specs.Parallel.{halfWidth}
+use Rattle.projection.specs.Forward.{placeOf}
+use Rattle.projection.specs.Inverse.{positionOf}
+use Rattle.projection.specs.Refusal.{Refusal, Outcome, refused, given}
+use Rattle.projection.specs.Answer.{widthOrder, forwardOrder, inverseOrder, widthOf, forwardOf, inverseOf}
+
+-- no condition of an order holds
+abbrev pub None : List Refusal → Type 0
+None [] = Unit {0}
+None (r ∷ rs) = (r .applies ≡ false) × None rs
+
+-- a refusal numbered n stands in the order, its condition holds, and none earlier does
+pub record First (order : List Refusal) (n : ℕ) : Type 0 where
+  pub earlier : List Refusal
+  pub refusal : Refusal
+  pub later : List Refusal
+  pub stands : order ≡ earlier ++ (refusal ∷ later)
+  pub number : refusal .number ≡ n
+  pub holds : refusal .applies ≡ true
+  pub none-earlier : None earlier
+
+-- an outcome is refused by the first refusal of the order, and gives a where there is none
+pub record Ordered {A : Type 0} (outcome : Outcome A) (order : List Refusal) (a : A) : Type 0 where
+  pub refusal : (n : ℕ) → (outcome ≡ refused n) ↔ First order n
+  pub answer : (b : A) → (outcome ≡ given b) ↔ (None order × (b ≡ a))
+
+pub record Demand1 : Type 0 where
+  pub half-width : (kind : ℕ) (latitude : ℤ) → Ordered (widthOf kind latitude) (widthOrder kind latitude) (halfWidth (rowOf kind) (natAbs latitude))
+  pub forward : (kind : ℕ) (central longitude latitude : ℤ) → Ordered (forwardOf kind central longitude latitude) (forwardOrder kind central longitude latitude) (placeOf (rowOf kind) central longitude latitude)
+  pub inverse : (kind : ℕ) (central x y : ℤ) → Ordered (inverseOf kind central x y) (inverseOrder kind central x y) (positionOf (rowOf kind) central x y)

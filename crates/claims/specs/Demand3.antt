@@ -1,0 +1,107 @@
+-- Demand 3, said once for every way of handing numbers in.
+use mathlib.Core.Logic.{_⊎_, _≢_}
+use mathlib.Core.Path.{_≡_}
+use Prim.Native.Nat.{ℕ, _≤_, _<_}
+use lib.IntN.{ℤ, pos, negℤ, natAbs, _-ℤ_}
+use Rattle.projection.specs.Angle.{N}
+use Rattle.projection.specs.Table.{rowOf}
+use Rattle.projection.specs.Parallel.{halfWidth}
+use Rattle.projection.specs.Inverse.{widthAt, differenceAt}
+use Rattle.projection.specs.Refusal.{Outcome, refused, given}
+use Rattle.projection.specs.Answer.{forwardOf, inverseOf}
+
+-- what is handed in and answered, the whole numbers that it stands for, when a second angle is the first with its sign
+-- turned, and the two calls
+pub record Way : Type 1 where
+  pub Angle : Type 0
+  pub Coordinate : Type 0
+  pub centiseconds : Angle → ℤ
+  pub units : Coordinate → ℤ
+  pub Turned : Angle → Angle → Type 0
+  pub forward : ℕ → Angle → Angle → Angle → Outcome (Coordinate × Coordinate)
+  pub inverse : ℕ → Angle → Coordinate → Coordinate → Outcome (Angle × Angle)
+
+-- whole numbers
+abbrev pub numbers : Way
+numbers =
+    record {
+      Angle = ℤ;
+      Coordinate = ℤ;
+      centiseconds = λ (z : ℤ). z;
+      units = λ (z : ℤ). z;
+      Turned = λ (z t : ℤ). t ≡ negℤ z;
+      forward = forwardOf;
+      inverse = inverseOf;
+    }
+
+-- -N and N are one meridian
+abbrev pub OneMeridian : ℤ → ℤ → Type 0
+OneMeridian l m = (l ≡ m) ⊎ ((natAbs l ≡ N) × (natAbs m ≡ N))
+
+-- the same longitude, 180 west and 180 east counting as one unless the central meridian c is 0
+abbrev pub SameAt : ℤ → ℤ → ℤ → Type 0
+SameAt c m l = (m ≡ l) ⊎ ((c ≢ pos 0) × (natAbs m ≡ N) × (natAbs l ≡ N))
+
+-- at most 2 units apart
+abbrev pub Close : ℤ → ℤ → Type 0
+Close a b = natAbs (a -ℤ b) ≤ 2
+
+module _ (w : Way) where
+  -- the same refusal; or x turned and y the same
+  abbrev pub TurnedX : Outcome (w .Coordinate × w .Coordinate) → Outcome (w .Coordinate × w .Coordinate) → Type 0
+  TurnedX (refused n) (refused m) = m ≡ n
+  TurnedX (given p) (given q) = (w .units (q .0) ≡ negℤ (w .units (p .0))) × (w .units (q .1) ≡ w .units (p .1))
+  TurnedX (refused n) (given q) = ⊥
+  TurnedX (given p) (refused m) = ⊥
+
+  -- the same refusal; or y turned and x the same
+  abbrev pub TurnedY : Outcome (w .Coordinate × w .Coordinate) → Outcome (w .Coordinate × w .Coordinate) → Type 0
+  TurnedY (refused n) (refused m) = m ≡ n
+  TurnedY (given p) (given q) = (w .units (q .0) ≡ w .units (p .0)) × (w .units (q .1) ≡ negℤ (w .units (p .1)))
+  TurnedY (refused n) (given q) = ⊥
+  TurnedY (given p) (refused m) = ⊥
+
+  -- the half-width of the parallel of a latitude
+  abbrev pub width : ℕ → w .Angle → ℕ
+  width kind f = halfWidth (rowOf kind) (natAbs (w .centiseconds f))
+
+  -- the place (x, y) of a position (l, f) is accepted and comes back to f and, on a parallel of half-width N or more, to l
+  pub record Returns (kind : ℕ) (c l f : w .Angle) (x y : w .Coordinate) : Type 0 where
+    pub longitude : w .Angle
+    pub latitude : w .Angle
+    pub accepted : w .inverse kind c x y ≡ given (longitude, latitude)
+    pub latitude-same : w .centiseconds latitude ≡ w .centiseconds f
+    pub longitude-same : N ≤ width kind f → SameAt (w .centiseconds c) (w .centiseconds longitude) (w .centiseconds l)
+
+  -- two different meridians have equal forward answers
+  pub record Shares (kind : ℕ) (c f : w .Angle) : Type 0 where
+    pub first : w .Angle
+    pub second : w .Angle
+    pub different : OneMeridian (w .centiseconds first) (w .centiseconds second) → ⊥
+    pub place₁ : w .Coordinate × w .Coordinate
+    pub place₂ : w .Coordinate × w .Coordinate
+    pub accepted₁ : w .forward kind c first f ≡ given place₁
+    pub accepted₂ : w .forward kind c second f ≡ given place₂
+    pub same-x : w .units (place₁ .0) ≡ w .units (place₂ .0)
+    pub same-y : w .units (place₁ .1) ≡ w .units (place₂ .1)
+
+  -- the longitude difference of a place, which inverse finds before the central meridian is added
+  abbrev pub difference : ℕ → w .Coordinate → w .Coordinate → ℤ
+  difference kind x y = differenceAt (widthAt (rowOf kind) (w .units y)) (w .units x)
+
+  -- the position (l, f) of a place (x, y) is accepted and comes back to within 2 units on each axis, x unless the difference
+  -- is exactly 180 degrees and the central meridian c is not 0
+  pub record Resends (kind : ℕ) (c : w .Angle) (x y : w .Coordinate) (l f : w .Angle) : Type 0 where
+    pub x' : w .Coordinate
+    pub y' : w .Coordinate
+    pub accepted : w .forward kind c l f ≡ given (x', y')
+    pub y-close : Close (w .units y') (w .units y)
+    pub x-close : Close (w .units x') (w .units x) ⊎ ((natAbs (difference kind x y) ≡ N) × (w .centiseconds c ≢ pos 0))
+
+  pub record Demand3 : Type 0 where
+    pub turning-x : (kind : ℕ) (c c' l l' f : w .Angle) → w .Turned c c' → w .Turned l l' → TurnedX (w .forward kind c l f) (w .forward kind c' l' f)
+    pub turning-y : (kind : ℕ) (c l f f' : w .Angle) → w .Turned f f' → TurnedY (w .forward kind c l f) (w .forward kind c l f')
+    pub forward-back : (kind : ℕ) (c l f : w .Angle) (x y : w .Coordinate) → w .forward kind c l f ≡ given (x, y) → Returns kind c l f x y
+    -- c and f are accepted with some longitude, and so with every one that is a meridian
+    pub sharing : (kind : ℕ) (c l f : w .Angle) (p : w .Coordinate × w .Coordinate) → w .forward kind c l f ≡ given p → width kind f < N → Shares kind c f
+    pub back-forward : (kind : ℕ) (c : w .Angle) (x y : w .Coordinate) (l f : w .Angle) → w .inverse kind c x y ≡ given (l, f) → Resends kind c x y l f
