@@ -1,6 +1,6 @@
 -- What forward and inverse accept, by the ranges of document 01.
 use mathlib.Core.Bool.{Bool, true, false, not}
-use mathlib.Core.Path.{_≡_, refl, sym, _∙_}
+use mathlib.Core.Path.{_≡_, refl}
 use Prim.Native.Nat.{ℕ, _≤_}
 use borrow.Author.Tests.{ltb-false, le-ltb}
 use lib.Dec.{T}
@@ -15,9 +15,6 @@ use Rattle.projection.specs.Answer.{forwardOrder, inverseOrder, forwardOf, inve
 use Rattle.projection.proofs.Judged.{not-false}
 use Rattle.claims.proofs.Refusals.{unless-none, unless-given}
 
-kind-true : (b : Bool) → not b ≡ false → T b
-kind-true b e = rw (not-false b e) tt
-
 kind-false : (b : Bool) → T b → not b ≡ false
 kind-false true t = refl
 kind-false false t = absurd t
@@ -29,13 +26,14 @@ pub record Position (kind : ℕ) (c l f : ℤ) : Type 0 where
   pub l-le : natAbs l ≤ N
   pub f-le : natAbs f ≤ H
 
-pub position : (kind : ℕ) (c l f : ℤ) (p : ℤ × ℤ) → forwardOf kind c l f ≡ given p → Position kind c l f × (p ≡ placeOf (rowOf kind) c l f)
+pub position : (kind : ℕ) (c l f : ℤ) (p : ℤ × ℤ) → forwardOf kind c l f ≡ given p →
+    Position kind c l f × (p ≡ placeOf (rowOf kind) c l f)
 unfolding forwardOf
 position kind c l f p e =
     let g = unless-given (forwardOrder kind c l f) (placeOf (rowOf kind) c l f) p e in
     let n = g .0 in (
       record {
-        kind-good = kind-true (isKind kind) (n .0);
+        kind-good = not-false (isKind kind) (n .0);
         c-le = ltb-false N (natAbs c) (n .1 .0);
         l-le = ltb-false N (natAbs l) (n .1 .1 .0);
         f-le = ltb-false H (natAbs f) (n .1 .1 .1 .0);
@@ -46,8 +44,10 @@ position kind c l f p e =
 pub accepts : (kind : ℕ) (c l f : ℤ) → Position kind c l f → forwardOf kind c l f ≡ given (placeOf (rowOf kind) c l f)
 unfolding forwardOf
 accepts kind c l f p =
-    unless-none (forwardOrder kind c l f) (placeOf (rowOf kind) c l f)
-    (kind-false (isKind kind) (p .kind-good), (le-ltb N (natAbs c) (p .c-le), (le-ltb N (natAbs l) (p .l-le), (le-ltb H (natAbs f) (p .f-le), tt))))
+    unless-none (forwardOrder kind c l f) (placeOf (rowOf kind) c l f) (
+      kind-false (isKind kind) (p .kind-good),
+      (le-ltb N (natAbs c) (p .c-le), (le-ltb N (natAbs l) (p .l-le), (le-ltb H (natAbs f) (p .f-le), tt))),
+    )
 
 -- a place that inverse accepts
 pub record Place (kind : ℕ) (c x y : ℤ) : Type 0 where
@@ -56,14 +56,15 @@ pub record Place (kind : ℕ) (c x y : ℤ) : Type 0 where
   pub y-le : natAbs y ≤ height (rowOf kind) H
   pub x-le : natAbs x ≤ widthAt (rowOf kind) y
 
-pub place : (kind : ℕ) (c x y : ℤ) (p : ℤ × ℤ) → inverseOf kind c x y ≡ given p → Place kind c x y × (p ≡ positionOf (rowOf kind) c x y)
+pub place : (kind : ℕ) (c x y : ℤ) (p : ℤ × ℤ) → inverseOf kind c x y ≡ given p →
+    Place kind c x y × (p ≡ positionOf (rowOf kind) c x y)
 unfolding inverseOf
 place kind c x y p e =
     let r = rowOf kind in
     let g = unless-given (inverseOrder kind c x y) (positionOf r c x y) p e in
     let n = g .0 in (
       record {
-        kind-good = kind-true (isKind kind) (n .0);
+        kind-good = not-false (isKind kind) (n .0);
         c-le = ltb-false N (natAbs c) (n .1 .0);
         y-le = ltb-false (height r H) (natAbs y) (n .1 .1 .0);
         x-le = ltb-false (widthAt r y) (natAbs x) (n .1 .1 .1 .0);

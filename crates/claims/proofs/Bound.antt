@@ -24,7 +24,8 @@ regroup : (x a b q : ℕ) → x * (a * M + b * q) ≡ a * (x * M) + b * x * q
 regroup x a b q = omega (arith, mul-add x (a * M) (b * q), mul-left-comm x a M, mul-left-comm x b q, mul-assoc b x q)
 
 -- by the rounding alone, 2 M W - KX a M is at most M away from KX b q
-rounded : (r : Row) (p : ℕ) → Usable r p → AtMost (rest r p) (slope r) (rootAt r p) M × AtLeast (rest r p) (slope r) (rootAt r p) M
+rounded : (r : Row) (p : ℕ) → Usable r p →
+    AtMost (rest r p) (slope r) (rootAt r p) M × AtLeast (rest r p) (slope r) (rootAt r p) M
 unfolding numerator combined
 rounded r p u =
     let x = r .kx in
@@ -54,7 +55,8 @@ bracket y n q t h k =
     (omega arith, omega arith)
 
 -- g is at most M away from y q, and q is the floor of t / N: so N g is less than 2 M N away from y t
-by-quotient : (y g : ℤ) (q t : ℕ) → N * q ≤ t → t ≤ N * q + N → natAbs y < M → AtMost g y q M → AtLeast g y q M → natAbs (g *ℤ pos N -ℤ y *ℤ pos t) < 2 * M * N
+by-quotient : (y g : ℤ) (q t : ℕ) → N * q ≤ t → t ≤ N * q + N → natAbs y < M → AtMost g y q M → AtLeast g y q M →
+    natAbs (g *ℤ pos N -ℤ y *ℤ pos t) < 2 * M * N
 by-quotient y g q t h k b l m =
     let z = parts (g *ℤ pos N -ℤ y *ℤ pos t) in
     let s = sum (g *ℤ pos N) (negℤ (y *ℤ pos t)) in
@@ -84,7 +86,8 @@ slope-none r h =
     let e : natAbs (r .b) ≡ 0 = omega arith in
     rw (natAbs-mul (r .b) (r .kx), e, zero-mul (r .kx)) (omega arith)
 
-within : (method : Method) (r : Row) (p : ℕ) → Usable r p → idle method (r .b) ≤ 0 → rootAt r p ≡ rootBy method (radicand r p) → WithinOne method r p
+within : (method : Method) (r : Row) (p : ℕ) → Usable r p → idle method (r .b) ≤ 0 → rootAt r p ≡ rootBy method (radicand r p) →
+    WithinOne method r p
 unfolding rootBy
 within Unused r p u b e =
     let n = rounded r p u in

@@ -4,7 +4,7 @@ use mathlib.Core.List.{List, [], _∷_, _++_}
 use mathlib.Core.Path.{_≡_, refl, ap}
 use Prim.Native.Nat.{ℕ}
 use native.Mathlib.Omega.{arith}
-use Rattle.projection.specs.Refusal.{Refusal, Outcome, refused, given, unless}
+use Rattle.projection.specs.Refusal.{Refusal, refused, given, unless}
 use Rattle.claims.specs.Demand1.{None, First, Ordered}
 
 module _ {A : Type 0} where
@@ -21,7 +21,8 @@ module _ {A : Type 0} where
   unless-given [] a b e = (tt, (cc))
   unless-given (r ∷ rs) a b e = go (r .applies) refl e (unless-given rs a b)
     where
-      go : (t : Bool) → r .applies ≡ t → cond t (refused (r .number)) (unless rs a) ≡ given b → (unless rs a ≡ given b → None rs × (b ≡ a)) → None (r ∷ rs) × (b ≡ a)
+      go : (t : Bool) → r .applies ≡ t → cond t (refused (r .number)) (unless rs a) ≡ given b →
+          (unless rs a ≡ given b → None rs × (b ≡ a)) → None (r ∷ rs) × (b ≡ a)
       go true h k on = absurd (not-both (r .number) b k)
       go false h k on = let n = on k in ((h, n .0), n .1)
 
@@ -30,7 +31,8 @@ module _ {A : Type 0} where
   unless-first [] a n e = absurd (let z : _≡_ {A = ℕ} 0 1 = cc in omega arith)
   unless-first (r ∷ rs) a n e = go (r .applies) refl e (unless-first rs a n)
     where
-      go : (t : Bool) → r .applies ≡ t → cond t (refused (r .number)) (unless rs a) ≡ refused n → (unless rs a ≡ refused n → First rs n) → First (r ∷ rs) n
+      go : (t : Bool) → r .applies ≡ t → cond t (refused (r .number)) (unless rs a) ≡ refused n →
+          (unless rs a ≡ refused n → First rs n) → First (r ∷ rs) n
       go true h k on = record { earlier = []; refusal = r; later = rs; stands = refl; number = cc; holds = h; none-earlier = tt }
       go false h k on =
           let f = on k in
@@ -44,7 +46,8 @@ module _ {A : Type 0} where
             none-earlier = (h, f .none-earlier);
           }
 
-  first-given : (earlier : List Refusal) (r : Refusal) (later : List Refusal) (a : A) → None earlier → r .applies ≡ true → unless (earlier ++ (r ∷ later)) a ≡ refused (r .number)
+  first-given : (earlier : List Refusal) (r : Refusal) (later : List Refusal) (a : A) → None earlier → r .applies ≡ true →
+      unless (earlier ++ (r ∷ later)) a ≡ refused (r .number)
   unfolding unless
   first-given [] r later a h k = rw k
   first-given (e ∷ es) r later a h k = rw (h .0) (first-given es r later a (h .1) k)

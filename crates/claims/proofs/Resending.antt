@@ -1,12 +1,11 @@
 -- Back and forward: the position of an accepted place is accepted, and comes back to within 2 units.
 use mathlib.Core.Logic.{_⊎_, inl, inr, _≢_}
-use mathlib.Core.Path.{_≡_, sym, ap, subst, _∙_}
+use mathlib.Core.Path.{_≡_, sym, ap, subst}
 use Prim.Native.Nat.{ℕ, zero, suc, _+_, _*_, _≤_, _<_}
 use native.Mathlib.Omega.{arith}
 use lib.IntN.{ℤ, pos, natAbs, _+ℤ_, _-ℤ_, +ℤ-comm}
 use Rattle.whole.specs.Nearest.{nearest}
-use Rattle.whole.specs.Signed.{onSize}
-use Rattle.whole.proofs.Rounding.{near, nearest-zero}
+use Rattle.whole.proofs.Rounding.{near}
 use Rattle.whole.proofs.Scales.{back-within}
 use Rattle.whole.proofs.Signs.{natAbs-on, on-within}
 use Rattle.projection.specs.declared.table.Row.{Row}
@@ -31,7 +30,8 @@ use Rattle.claims.proofs.Returning.{not-zero}
 use Rattle.claims.proofs.Wraps.{Ends, there-and-back}
 
 -- a pointed pole too: there w is 0, and so is x
-size-close : (w x : ℕ) → x ≤ w → w < 5 * N → (nearest (w * nearest (x * N) w) N ≤ x + 2) × (x ≤ nearest (w * nearest (x * N) w) N + 2)
+size-close : (w x : ℕ) → x ≤ w → w < 5 * N →
+    (nearest (w * nearest (x * N) w) N ≤ x + 2) × (x ≤ nearest (w * nearest (x * N) w) N + 2)
 size-close zero x h l = let z = near (0 * nearest (x * N) 0) N (omega arith) in (omega arith, omega arith)
 size-close (suc w) x h l =
     let d = nearest (x * N) (suc w) in
@@ -80,23 +80,22 @@ module _ (kind : ℕ) (c x y : ℤ) (p : Place kind c x y) where
   y-close : Close (yOf r f) y
   unfolding latitudeAt
   y-close =
-      rw (y-on r f)
-      (omega (
-        arith,
-        on-within (parallelAt r) (height r) 2 (height-zero r) y
-            (back-within N (r .ky) (natAbs y) (parallelAt r (natAbs y)) (height r (parallelAt r (natAbs y))) (cols .ky-high) (parallel-near r cols (natAbs y))
-            (height-near r (parallelAt r (natAbs y)))),
-      ))
+      let q = parallelAt r (natAbs y) in
+      let b = back-within N (r .ky) (natAbs y) q (height r q) (cols .ky-high) (parallel-near r cols (natAbs y)) (height-near r q) in
+      rw (y-on r f) (omega (arith, on-within (parallelAt r) (height r) 2 (height-zero r) y b))
 
   x-again : Close (xOf w d) x
   x-again =
-      rw (x-on w d, difference-on w x)
-      (omega (arith, on-within (λ (n : ℕ). nearest (n * N) w) (λ (n : ℕ). nearest (w * n) N) 2 (scaled-zero w) x (size-close w (natAbs x) (p .x-le) width-below)))
+      let back : ℕ → ℕ = λ n. nearest (n * N) w in
+      let again : ℕ → ℕ = λ n. nearest (w * n) N in
+      let b = size-close w (natAbs x) (p .x-le) width-below in
+      rw (x-on w d, difference-on w x) (omega (arith, on-within back again 2 (scaled-zero w) x b))
 
   x-close : Close (xOf (halfWidth r (natAbs f)) (differenceOf c l)) x ⊎ ((natAbs d ≡ N) × (c ≢ pos 0))
   x-close = rw (width-same, +ℤ-comm c d) (go (there-and-back d c d-le (p .c-le)))
     where
-      go : (wrap (wrap (d +ℤ c) -ℤ c) ≡ d) ⊎ Ends d c (wrap (wrap (d +ℤ c) -ℤ c)) → Close (xOf w (wrap (wrap (d +ℤ c) -ℤ c))) x ⊎ ((natAbs d ≡ N) × (c ≢ pos 0))
+      go : (wrap (wrap (d +ℤ c) -ℤ c) ≡ d) ⊎ Ends d c (wrap (wrap (d +ℤ c) -ℤ c)) →
+          Close (xOf w (wrap (wrap (d +ℤ c) -ℤ c))) x ⊎ ((natAbs d ≡ N) × (c ≢ pos 0))
       go (inl e) = inl (rw e x-again)
       go (inr e) = inr (e .first, not-zero c (e .moved))
 

@@ -10,7 +10,7 @@ use Rattle.whole.proofs.Rounding.{near}
 use Rattle.whole.proofs.Scales.{return}
 use Rattle.whole.proofs.Signs.{natAbs-neg, natAbs-on, on-back}
 use Rattle.projection.specs.declared.table.Row.{Row}
-use Rattle.projection.specs.Angle.{N, H}
+use Rattle.projection.specs.Angle.{N}
 use Rattle.projection.specs.Table.{rowOf}
 use Rattle.projection.specs.Parallel.{halfWidth, height}
 use Rattle.projection.specs.Longitude.{wrap, differenceOf, longitudeOf}
@@ -18,7 +18,7 @@ use Rattle.projection.specs.Forward.{xOf, yOf, placeOf}
 use Rattle.projection.specs.Inverse.{parallelAt, latitudeAt, widthAt, differenceAt, positionOf}
 use Rattle.projection.specs.Refusal.{given}
 use Rattle.projection.specs.Columns.{Columns}
-use Rattle.projection.specs.Answer.{forwardOf, inverseOf}
+use Rattle.projection.specs.Answer.{forwardOf}
 use Rattle.projection.proofs.Rows.{columns}
 use Rattle.projection.proofs.Longitudes.{difference-le}
 use Rattle.projection.proofs.Scales.{scaled-le, unscaled-zero}
@@ -89,7 +89,8 @@ module _ (kind : ℕ) (c l f : ℤ) (p : Position kind c l f) where
   longitude-same : N ≤ w → SameAt c (longitudeOf c (differenceAt (widthAt r y) x)) l
   longitude-same h = rw (difference-back h, +ℤ-comm c d) (go (there-and-back l (negℤ c) (p .l-le) (rw (natAbs-neg c) (p .c-le))))
     where
-      go : (wrap (wrap (l +ℤ negℤ c) -ℤ negℤ c) ≡ l) ⊎ Ends l (negℤ c) (wrap (wrap (l +ℤ negℤ c) -ℤ negℤ c)) → SameAt c (wrap (wrap (l -ℤ c) +ℤ c)) l
+      go : (wrap (wrap (l +ℤ negℤ c) -ℤ negℤ c) ≡ l) ⊎ Ends l (negℤ c) (wrap (wrap (l +ℤ negℤ c) -ℤ negℤ c)) →
+          SameAt c (wrap (wrap (l -ℤ c) +ℤ c)) l
       go (inl e) = inl (rw (negℤ-negℤ c) at e)
       go (inr e) = inr (not-zero c (rw (natAbs-neg c) at (e .moved)), rw (negℤ-negℤ c) at (e .last), e .first)
 

@@ -21,7 +21,8 @@ abbrev pub AtLeast : ℤ → ℤ → ℕ → ℕ → Type 0
 AtLeast g y q m = minus g + plus y * q ≤ plus g + minus y * q + m
 
 -- u is g - 2 m: below y q by m or more where q is a floor, and so below y times the root
-below-by : (u y : ℤ) (g : ℤ) (s q m : ℕ) → plus u + (minus g + 2 * m) ≡ minus u + plus g → IsRoot s q → natAbs y < m → AtMost g y q m → BelowRoot u y s
+below-by : (u y : ℤ) (g : ℤ) (s q m : ℕ) → plus u + (minus g + 2 * m) ≡ minus u + plus g → IsRoot s q → natAbs y < m →
+    AtMost g y q m → BelowRoot u y s
 below-by (pos u) (pos y) g s q m e r h k =
     let l : u < y * q = omega arith in
     lt-of-lt-of-le (square-mono-lt l) (rw (mul-mul-mul-comm y q y q) (mul-le-mul-left (y * y) (r .low)))

@@ -1,25 +1,25 @@
 -- Sharing: on a parallel narrower than N, two different meridians have one place.
-use mathlib.Core.Logic.{_⊎_, inl, inr}
+use mathlib.Core.Logic.{inl, inr}
 use mathlib.Core.Path.{_≡_, refl, sym, ap, _∙_}
 use Prim.Native.Nat.{ℕ, zero, suc, _+_, _*_, _≤_, _<_}
 use native.Mathlib.Omega.{arith}
 use lib.IntN.{ℤ, pos, negsuc, negℤ, natAbs, _+ℤ_, _-ℤ_, +ℤ-comm, +ℤ-negℤ-cancel, negℤ-negℤ}
 use Rattle.whole.specs.Nearest.{nearest}
-use Rattle.whole.specs.Signed.{onSize, plus, minus}
+use Rattle.whole.specs.Signed.{plus, minus}
 use Rattle.whole.proofs.Scales.{share}
 use Rattle.whole.proofs.Signs.{parts, sum, natAbs-neg}
 use Rattle.projection.specs.declared.table.Row.{Row}
-use Rattle.projection.specs.Angle.{N, H}
+use Rattle.projection.specs.Angle.{N}
 use Rattle.projection.specs.Table.{rowOf}
 use Rattle.projection.specs.Parallel.{halfWidth}
 use Rattle.projection.specs.Longitude.{wrap, differenceOf}
-use Rattle.projection.specs.Forward.{xOf, yOf, placeOf}
-use Rattle.projection.specs.Refusal.{given, isKind}
+use Rattle.projection.specs.Forward.{xOf, placeOf}
+use Rattle.projection.specs.Refusal.{given}
 use Rattle.projection.specs.Answer.{forwardOf}
 use Rattle.projection.proofs.Longitudes.{wrap-near}
-use Rattle.projection.proofs.Places.{x-on, x-neg, difference-neg}
+use Rattle.projection.proofs.Places.{x-on, x-turned}
 use Rattle.claims.specs.Demand3.{numbers, OneMeridian, Shares}
-use Rattle.claims.proofs.Accepted.{Position, position, accepts}
+use Rattle.claims.proofs.Accepted.{position, accepts}
 
 -- two longitudes of different meridians with one x
 record Pair (r : Row) (c f : ℤ) : Type 0 where
@@ -78,14 +78,13 @@ turn-different l m h (inr e) = h (inr (rw (natAbs-neg l) at (e .0), rw (natAbs-n
 turn-pair : (r : Row) (c f : ℤ) → Pair r c f → Pair r (negℤ c) f
 turn-pair r c f p =
     let w = halfWidth r (natAbs f) in
-    let x : (l : ℤ) → xOf w (differenceOf (negℤ c) (negℤ l)) ≡ negℤ (xOf w (differenceOf c l)) = λ l. ap (xOf w) (difference-neg c l) ∙ x-neg w (differenceOf c l) in
     record {
       first = negℤ (p .first);
       second = negℤ (p .second);
       first-le = rw (natAbs-neg (p .first)) (p .first-le);
       second-le = rw (natAbs-neg (p .second)) (p .second-le);
       different = turn-different (p .first) (p .second) (p .different);
-      same = x (p .first) ∙ ap negℤ (p .same) ∙ sym (x (p .second));
+      same = x-turned w c (p .first) ∙ ap negℤ (p .same) ∙ sym (x-turned w c (p .second));
     }
 
 pair : (r : Row) (c f : ℤ) → natAbs c ≤ N → halfWidth r (natAbs f) < N → Pair r c f
@@ -93,7 +92,8 @@ pair r (negsuc n) f h k = east-pair (negsuc n) h refl r f k
 pair r (pos zero) f h k = east-pair (pos 0) h refl r f k
 pair r (pos (suc n)) f h k = turn-pair r (negsuc n) f (east-pair (negsuc n) h refl r f k)
 
-pub sharing : (kind : ℕ) (c l f : ℤ) (p : ℤ × ℤ) → forwardOf kind c l f ≡ given p → halfWidth (rowOf kind) (natAbs f) < N → Shares numbers kind c f
+pub sharing : (kind : ℕ) (c l f : ℤ) (p : ℤ × ℤ) → forwardOf kind c l f ≡ given p → halfWidth (rowOf kind) (natAbs f) < N →
+    Shares numbers kind c f
 unfolding placeOf
 sharing kind c l f p e h =
     let a = position kind c l f p e .0 in

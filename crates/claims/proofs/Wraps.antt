@@ -1,7 +1,7 @@
 -- A central meridian added and taken away again, each sum wrapped: the same number, but that -N and N may change places.
 use mathlib.Core.Logic.{_⊎_, inl, inr}
 use mathlib.Core.Path.{_≡_, ap, _∙_}
-use Prim.Native.Nat.{ℕ, _+_, _*_, _≤_, _<_}
+use Prim.Native.Nat.{_+_, _≤_, _<_}
 use native.Mathlib.Omega.{arith}
 use lib.IntN.{ℤ, negℤ, natAbs, _+ℤ_, _-ℤ_}
 use Rattle.whole.specs.Signed.{plus, minus}
@@ -18,16 +18,16 @@ pub record Ends (a c b : ℤ) : Type 0 where
 
 -- what is linear in a, c, z = a + c, its wrap d, y = d - c and its wrap b
 record Linear (a c z d y b : ℤ) : Type 0 where
-  pub a-le : natAbs a ≤ N
-  pub c-le : natAbs c ≤ N
-  pub pa : Parts a
-  pub pc : Parts c
-  pub pz : Parts z
-  pub pd : Parts d
-  pub py : Parts y
-  pub pb : Parts b
-  pub z-is : plus z + (minus a + minus c) ≡ minus z + (plus a + plus c)
-  pub y-is : plus y + (minus d + plus c) ≡ minus y + (plus d + minus c)
+  a-le : natAbs a ≤ N
+  c-le : natAbs c ≤ N
+  pa : Parts a
+  pc : Parts c
+  pz : Parts z
+  pd : Parts d
+  py : Parts y
+  pb : Parts b
+  z-is : plus z + (minus a + minus c) ≡ minus z + (plus a + plus c)
+  y-is : plus y + (minus d + plus c) ≡ minus y + (plus d + minus c)
 
 ends : (a c b : ℤ) → 0 < natAbs c → natAbs a ≡ N → plus b + plus a ≡ minus b + minus a → Ends a c b
 ends a c b h k e =
@@ -47,7 +47,8 @@ by-cases a c z d y b r (up f g) (stay h k) = inr (ends a c b (omega arith) (omeg
 by-cases a c z d y b r (up f g) (down h k) = inl (ext b a (omega arith))
 by-cases a c z d y b r (up f g) (up h k) = absurd (omega arith)
 
-pub there-and-back : (a c : ℤ) → natAbs a ≤ N → natAbs c ≤ N → (wrap (wrap (a +ℤ c) -ℤ c) ≡ a) ⊎ Ends a c (wrap (wrap (a +ℤ c) -ℤ c))
+pub there-and-back : (a c : ℤ) → natAbs a ≤ N → natAbs c ≤ N →
+    (wrap (wrap (a +ℤ c) -ℤ c) ≡ a) ⊎ Ends a c (wrap (wrap (a +ℤ c) -ℤ c))
 there-and-back a c ha hc =
     let z = a +ℤ c in
     let d = wrap z in

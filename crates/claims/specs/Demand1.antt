@@ -34,6 +34,10 @@ pub record Ordered {A : Type 0} (outcome : Outcome A) (order : List Refusal) (a 
   pub answer : (b : A) → (outcome ≡ given b) ↔ (None order × (b ≡ a))
 
 pub record Demand1 : Type 0 where
-  pub half-width : (kind : ℕ) (latitude : ℤ) → Ordered (widthOf kind latitude) (widthOrder kind latitude) (halfWidth (rowOf kind) (natAbs latitude))
-  pub forward : (kind : ℕ) (central longitude latitude : ℤ) → Ordered (forwardOf kind central longitude latitude) (forwardOrder kind central longitude latitude) (placeOf (rowOf kind) central longitude latitude)
-  pub inverse : (kind : ℕ) (central x y : ℤ) → Ordered (inverseOf kind central x y) (inverseOrder kind central x y) (positionOf (rowOf kind) central x y)
+  pub half-width : (kind : ℕ) (latitude : ℤ) →
+      Ordered (widthOf kind latitude) (widthOrder kind latitude) (halfWidth (rowOf kind) (natAbs latitude))
+  pub forward : (kind : ℕ) (central longitude latitude : ℤ) →
+      Ordered (forwardOf kind central longitude latitude) (forwardOrder kind central longitude latitude)
+      (placeOf (rowOf kind) central longitude latitude)
+  pub inverse : (kind : ℕ) (central x y : ℤ) →
+      Ordered (inverseOf kind central x y) (inverseOrder kind central x y) (positionOf (rowOf kind) central x y)

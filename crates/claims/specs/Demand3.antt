@@ -46,20 +46,21 @@ SameAt c m l = (m ≡ l) ⊎ ((c ≢ pos 0) × (natAbs m ≡ N) × (natAbs l ≡
 abbrev pub Close : ℤ → ℤ → Type 0
 Close a b = natAbs (a -ℤ b) ≤ 2
 
-module _ (w : Way) where
-  -- the same refusal; or x turned and y the same
-  abbrev pub TurnedX : Outcome (w .Coordinate × w .Coordinate) → Outcome (w .Coordinate × w .Coordinate) → Type 0
-  TurnedX (refused n) (refused m) = m ≡ n
-  TurnedX (given p) (given q) = (w .units (q .0) ≡ negℤ (w .units (p .0))) × (w .units (q .1) ≡ w .units (p .1))
-  TurnedX (refused n) (given q) = ⊥
-  TurnedX (given p) (refused m) = ⊥
+-- two answers are refused by the same number, or are given and stand in R
+abbrev pub Alike : {A : Type 0} → (A → A → Type 0) → Outcome A → Outcome A → Type 0
+Alike R (refused n) (refused m) = m ≡ n
+Alike R (given p) (given q) = R p q
+Alike R (refused n) (given q) = ⊥
+Alike R (given p) (refused m) = ⊥
 
-  -- the same refusal; or y turned and x the same
-  abbrev pub TurnedY : Outcome (w .Coordinate × w .Coordinate) → Outcome (w .Coordinate × w .Coordinate) → Type 0
-  TurnedY (refused n) (refused m) = m ≡ n
-  TurnedY (given p) (given q) = (w .units (q .0) ≡ w .units (p .0)) × (w .units (q .1) ≡ negℤ (w .units (p .1)))
-  TurnedY (refused n) (given q) = ⊥
-  TurnedY (given p) (refused m) = ⊥
+module _ (w : Way) where
+  -- x turned and y the same
+  abbrev pub TurnedX : w .Coordinate × w .Coordinate → w .Coordinate × w .Coordinate → Type 0
+  TurnedX p q = (w .units (q .0) ≡ negℤ (w .units (p .0))) × (w .units (q .1) ≡ w .units (p .1))
+
+  -- y turned and x the same
+  abbrev pub TurnedY : w .Coordinate × w .Coordinate → w .Coordinate × w .Coordinate → Type 0
+  TurnedY p q = (w .units (q .0) ≡ w .units (p .0)) × (w .units (q .1) ≡ negℤ (w .units (p .1)))
 
   -- the half-width of the parallel of a latitude
   abbrev pub width : ℕ → w .Angle → ℕ
@@ -99,9 +100,13 @@ module _ (w : Way) where
     pub x-close : Close (w .units x') (w .units x) ⊎ ((natAbs (difference kind x y) ≡ N) × (w .centiseconds c ≢ pos 0))
 
   pub record Demand3 : Type 0 where
-    pub turning-x : (kind : ℕ) (c c' l l' f : w .Angle) → w .Turned c c' → w .Turned l l' → TurnedX (w .forward kind c l f) (w .forward kind c' l' f)
-    pub turning-y : (kind : ℕ) (c l f f' : w .Angle) → w .Turned f f' → TurnedY (w .forward kind c l f) (w .forward kind c l f')
-    pub forward-back : (kind : ℕ) (c l f : w .Angle) (x y : w .Coordinate) → w .forward kind c l f ≡ given (x, y) → Returns kind c l f x y
+    pub turning-x : (kind : ℕ) (c c' l l' f : w .Angle) → w .Turned c c' → w .Turned l l' →
+        Alike TurnedX (w .forward kind c l f) (w .forward kind c' l' f)
+    pub turning-y : (kind : ℕ) (c l f f' : w .Angle) → w .Turned f f' → Alike TurnedY (w .forward kind c l f) (w .forward kind c l f')
+    pub forward-back : (kind : ℕ) (c l f : w .Angle) (x y : w .Coordinate) → w .forward kind c l f ≡ given (x, y) →
+        Returns kind c l f x y
     -- c and f are accepted with some longitude, and so with every one that is a meridian
-    pub sharing : (kind : ℕ) (c l f : w .Angle) (p : w .Coordinate × w .Coordinate) → w .forward kind c l f ≡ given p → width kind f < N → Shares kind c f
-    pub back-forward : (kind : ℕ) (c : w .Angle) (x y : w .Coordinate) (l f : w .Angle) → w .inverse kind c x y ≡ given (l, f) → Resends kind c x y l f
+    pub sharing : (kind : ℕ) (c l f : w .Angle) (p : w .Coordinate × w .Coordinate) → w .forward kind c l f ≡ given p →
+        width kind f < N → Shares kind c f
+    pub back-forward : (kind : ℕ) (c : w .Angle) (x y : w .Coordinate) (l f : w .Angle) → w .inverse kind c x y ≡ given (l, f) →
+        Resends kind c x y l f

@@ -1,14 +1,14 @@
 -- What inverse finds at a place: the parallel, its half-width and the difference.
 use mathlib.Core.Path.{_≡_, sym, _∙_}
-use Prim.Native.Nat.{ℕ, zero, suc, _*_, _≤_, _<_}
+use Prim.Native.Nat.{ℕ, zero, suc, _*_, _≤_}
 use native.Mathlib.Omega.{arith}
-use lib.Dec.{eqb, eqb·suc-zero}
-use lib.IntN.{ℤ, pos, negsuc, natAbs, _*ℤ_}
+use lib.Dec.{eqb·suc-zero}
+use lib.IntN.{ℤ, pos, negsuc, _*ℤ_}
 use Rattle.whole.specs.Nearest.{nearest, Near}
 use Rattle.whole.specs.Signed.{onSize, nearestSigned}
 use Rattle.whole.proofs.Rounding.{near, nearest-by-zero}
 use Rattle.whole.proofs.Scales.{return-le}
-use Rattle.whole.proofs.Signs.{natAbs-on, scaled-nearest}
+use Rattle.whole.proofs.Signs.{scaled-nearest}
 use Rattle.projection.specs.declared.table.Row.{Row}
 use Rattle.projection.specs.Angle.{N, H}
 use Rattle.projection.specs.Parallel.{height}

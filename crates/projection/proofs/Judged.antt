@@ -1,5 +1,5 @@
 -- What the tests of a call say of what it was handed.
-use mathlib.Core.Path.{_≡_, refl, sym, ap, _∙_}
+use mathlib.Core.Path.{_≡_, sym, ap, subst, _∙_}
 use mathlib.Core.Bool.{Bool, true, false, not}
 use Prim.Native.Nat.{ℕ, _≤_}
 use borrow.Author.Tests.{ltb-false}
@@ -14,9 +14,9 @@ use Rattle.whole.proofs.Signs.{join-split, natAbs-join}
 use Rattle.projection.specs.Angle.{outside}
 
 -- a failed test of a negation
-pub not-false : (b : Bool) → not b ≡ false → b ≡ true
-not-false true e = refl
-not-false false e = sym e
+pub not-false : (b : Bool) → not b ≡ false → T b
+not-false true e = tt
+not-false false e = subst T e tt
 
 -- a number taken apart is that number
 pub number-is : {z : ℤ} (s : Signed) → SFits w32 z → s ≡ splitOf (toZ w32 (ofZ w32 z)) → joinOf s ≡ z

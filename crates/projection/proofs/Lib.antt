@@ -6,3 +6,4 @@ pub mod Scales
 pub mod Places
 pub mod Found
 pub mod Judged
+pub mod Orders

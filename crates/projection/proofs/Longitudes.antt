@@ -51,7 +51,7 @@ pub wrap-far : (b : Bool) (n : ℕ) → N < n → n ≤ 2 * N → wrap (withSign
 wrap-far false n h k = far-east n h k
 wrap-far true n h k = wrap-neg (pos n) ∙ ap negℤ (far-east n h k) ∙ negℤ-negℤ (pos (2 * N - n))
 
-pub wrap-le : (z : ℤ) → natAbs z ≤ 3 * N → natAbs (wrap z) ≤ N
+wrap-le : (z : ℤ) → natAbs z ≤ 3 * N → natAbs (wrap z) ≤ N
 wrap-le z h = go (wrapped z)
   where
     go : Wrapped z (wrap z) → natAbs (wrap z) ≤ N
@@ -59,7 +59,7 @@ wrap-le z h = go (wrapped z)
     go (down a e) = let p = parts z in let q = parts (wrap z) in omega arith
     go (up a e) = let p = parts z in let q = parts (wrap z) in omega arith
 
-pub sum-le : (x y : ℤ) {a b : ℕ} → natAbs x ≤ a → natAbs y ≤ b → natAbs (x +ℤ y) ≤ a + b
+sum-le : (x y : ℤ) {a b : ℕ} → natAbs x ≤ a → natAbs y ≤ b → natAbs (x +ℤ y) ≤ a + b
 sum-le x y h k = let p = parts x in let q = parts y in let r = parts (x +ℤ y) in let s = sum x y in omega arith
 
 pub difference-le : (c l : ℤ) → natAbs c ≤ N → natAbs l ≤ N → natAbs (differenceOf c l) ≤ N

@@ -42,11 +42,14 @@ unfolding height
 height-mono r h = nearest-mono N (omega arith) (mul-le-mul-left (r .ky) h)
 
 -- turned signs
-pub x-neg : (w : ℕ) (d : ℤ) → xOf w (negℤ d) ≡ negℤ (xOf w d)
+x-neg : (w : ℕ) (d : ℤ) → xOf w (negℤ d) ≡ negℤ (xOf w d)
 x-neg w d = rw (x-on w (negℤ d), x-on w d) (on-neg (λ (n : ℕ). nearest (w * n) N) (scaled-zero w) d)
 
-pub y-neg : (r : Row) (latitude : ℤ) → yOf r (negℤ latitude) ≡ negℤ (yOf r latitude)
-y-neg r f = rw (y-on r (negℤ f), y-on r f) (on-neg (height r) (height-zero r) f)
-
-pub difference-neg : (c l : ℤ) → differenceOf (negℤ c) (negℤ l) ≡ negℤ (differenceOf c l)
+difference-neg : (c l : ℤ) → differenceOf (negℤ c) (negℤ l) ≡ negℤ (differenceOf c l)
 difference-neg c l = ap wrap (sym (negℤ-+ℤ l (negℤ c))) ∙ wrap-neg (l -ℤ c)
+
+pub x-turned : (w : ℕ) (c l : ℤ) → xOf w (differenceOf (negℤ c) (negℤ l)) ≡ negℤ (xOf w (differenceOf c l))
+x-turned w c l = ap (xOf w) (difference-neg c l) ∙ x-neg w (differenceOf c l)
+
+pub y-turned : (r : Row) (latitude : ℤ) → yOf r (negℤ latitude) ≡ negℤ (yOf r latitude)
+y-turned r f = rw (y-on r (negℤ f), y-on r f) (on-neg (height r) (height-zero r) f)

@@ -1,7 +1,7 @@
 -- The two scales of the map, N and a half-width or KY: sizes that go from one to the other.
 use mathlib.Core.Path.{_≡_, sym, ap, _∙_}
 use Prim.Native.Nat.{ℕ, zero, suc, _*_, _≤_, _<_}
-use native.Mathlib.Nat.{mul-zero, zero-mul, mul-comm, mul-le-mul, le-of-lt}
+use native.Mathlib.Nat.{mul-zero, mul-comm, mul-le-mul, le-of-lt}
 use native.Mathlib.Omega.{arith}
 use lib.IntN.{pos, natAbs, _*ℤ_}
 use Rattle.whole.specs.declared.Signed.{Signed}

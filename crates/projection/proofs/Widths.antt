@@ -42,7 +42,8 @@ linear-between A a B b x y z (inl h) l m = linear A a B b (h .0) (h .1) l m
 linear-between A a B b x y z (inr h) l m = linear A a B b (h .0) (h .1) m l
 
 -- x u + y v by what is added and what is taken away
-pub combined-is : (x : ℤ) (u : ℕ) (y : ℤ) (v : ℕ) → NotBelow x u y v → combined x u y v + (minus x * u + minus y * v) ≡ plus x * u + plus y * v
+pub combined-is : (x : ℤ) (u : ℕ) (y : ℤ) (v : ℕ) → NotBelow x u y v →
+    combined x u y v + (minus x * u + minus y * v) ≡ plus x * u + plus y * v
 unfolding combined
 combined-is x u y v h =
     let s = sum (x *ℤ pos u) (y *ℤ pos v) in

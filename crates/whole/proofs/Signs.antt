@@ -44,7 +44,8 @@ parts (negsuc n) = record { one = omega arith; size = omega arith }
 sub-parts : (a b : ℕ) → plus (subℕ a b) + b ≡ minus (subℕ a b) + a
 sub-parts a b = go (ltb a b) refl
   where
-    go : (t : Bool) → ltb a b ≡ t → plus (cond t (negsuc (b - suc a)) (pos (a - b))) + b ≡ minus (cond t (negsuc (b - suc a)) (pos (a - b))) + a
+    go : (t : Bool) → ltb a b ≡ t →
+        plus (cond t (negsuc (b - suc a)) (pos (a - b))) + b ≡ minus (cond t (negsuc (b - suc a)) (pos (a - b))) + a
     go true e = omega (arith, ltb-true a b e)
     go false e = omega (arith, ltb-false a b e)
 
@@ -139,10 +140,11 @@ apart-sizes a b k h l e d =
     let n = minus-neg b in
     omega arith
 
-pub neg-less : (a b : ℤ) → natAbs (negℤ a -ℤ negℤ b) ≡ natAbs (a -ℤ b)
+neg-less : (a b : ℤ) → natAbs (negℤ a -ℤ negℤ b) ≡ natAbs (a -ℤ b)
 neg-less a b = ap natAbs (sym (negℤ-+ℤ a (negℤ b))) ∙ natAbs-neg (a -ℤ b)
 
-pub on-within : (f g : ℕ → ℕ) (k : ℕ) → g 0 ≡ 0 → (z : ℤ) → (g (f (natAbs z)) ≤ natAbs z + k) × (natAbs z ≤ g (f (natAbs z)) + k) → natAbs (onSize g (onSize f z) -ℤ z) ≤ k
+pub on-within : (f g : ℕ → ℕ) (k : ℕ) → g 0 ≡ 0 → (z : ℤ) →
+    (g (f (natAbs z)) ≤ natAbs z + k) × (natAbs z ≤ g (f (natAbs z)) + k) → natAbs (onSize g (onSize f z) -ℤ z) ≤ k
 on-within f g k o (pos n) h = apart-sizes (pos (g (f n))) (pos n) k (h .0) (h .1) refl refl
 on-within f g k o (negsuc n) h =
     let m = pos (g (f (suc n))) in

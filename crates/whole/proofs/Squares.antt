@@ -37,7 +37,8 @@ step n r a =
     ap (λ (x : ℕ). x * x) d ∙ mul-mul-mul-comm 2 (suc r) 2 (suc r) in
     (omega arith, omega arith)
 
-pick : (n r : ℕ) (b : Bool) → (T b → suc r * suc r ≤ n) → (T (not b) → n < suc r * suc r) → r * r ≤ n → n < suc (suc r) * suc (suc r) → IsRoot n (cond b (suc r) r)
+pick : (n r : ℕ) (b : Bool) → (T b → suc r * suc r ≤ n) → (T (not b) → n < suc r * suc r) → r * r ≤ n →
+    n < suc (suc r) * suc (suc r) → IsRoot n (cond b (suc r) r)
 pick n r true f g l u = record { low = f tt; high = u }
 pick n r false f g l u = record { low = l; high = g tt }
 

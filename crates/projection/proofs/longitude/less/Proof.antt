@@ -1,6 +1,5 @@
 -- `projection::longitude::less` meets its contract: the smaller is taken from the greater, and the sign says which it was.
-use mathlib.Core.Path.{_≡_, ap, sym, _∙_}
-use Prim.Native.Nat.{_≤_}
+use mathlib.Core.Path.{ap, sym, _∙_}
 use native.Mathlib.Omega.{arith}
 use borrow.Author.Needs.{needs}
 use Rattle.whole.proofs.Signs.{less-east, less-west}

@@ -6,7 +6,7 @@ use borrow.Author.Needs.{needs}
 use lib.IntN.{pos, _-ℤ_}
 use Rattle.whole.specs.declared.Signed.{Signed}
 use Rattle.whole.specs.Signed.{joinOf, plus, minus}
-use Rattle.whole.proofs.Signs.{Parts, parts, natAbs-join, by-parts}
+use Rattle.whole.proofs.Signs.{parts, natAbs-join, by-parts}
 use Rattle.projection.specs.Angle.{N}
 use Rattle.projection.specs.Longitude.{wrap}
 use Rattle.projection.proofs.longitude.sum.Statement.{statement}
@@ -22,10 +22,14 @@ plus-requires c κs = search needs
 plus-requires-2 : tie.Need-plus-requires-2
 plus-requires-2 c κs = search needs
 
-east : (c : tie.After-plus2) → c .before .plus .result + c .plus2 .result ≡ plus (joinOf (c .before .before .args .first)) + plus (joinOf (c .before .before .args .second))
+east : (c : tie.After-plus2) →
+    let s = c .before .before .args in
+    c .before .plus .result + c .plus2 .result ≡ plus (joinOf (s .first)) + plus (joinOf (s .second))
 east c = ap₂ _+_ (c .before .plus .ensures) (c .plus2 .ensures)
 
-west : (c : tie.After-minus2) → c .before .minus .result + c .minus2 .result ≡ minus (joinOf (c .before .before .before .before .args .first)) + minus (joinOf (c .before .before .before .before .args .second))
+west : (c : tie.After-minus2) →
+    let s = c .before .before .before .before .args in
+    c .before .minus .result + c .minus2 .result ≡ minus (joinOf (s .first)) + minus (joinOf (s .second))
 west c = ap₂ _+_ (c .before .minus .ensures) (c .minus2 .ensures)
 
 add-less : tie.Need-add-less
@@ -55,7 +59,9 @@ returns : tie.Need-returns
 returns c =
     let s = c .before .before .before .before .before in
     c .less .ensures
-    ∙ ap wrap (ap₂ (λ (a b : ℕ). pos a -ℤ pos b) (east (c .before .before .before)) (west (c .before)) ∙ by-parts (joinOf (s .args .first)) (joinOf (s .args .second)))
+    ∙ ap wrap
+    (ap₂ (λ (a b : ℕ). pos a -ℤ pos b) (east (c .before .before .before)) (west (c .before))
+    ∙ by-parts (joinOf (s .args .first)) (joinOf (s .args .second)))
 
 pub sum-spec : {M : Type 1} → statement M
 sum-spec =

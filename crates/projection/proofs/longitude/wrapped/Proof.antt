@@ -1,11 +1,9 @@
 -- `projection::longitude::wrapped` meets its contract: past N, 2 N less the size stands on the other side of 0.
-use mathlib.Core.Path.{_≡_, sym, _∙_}
-use Prim.Native.Nat.{_≤_, _<_}
+use mathlib.Core.Path.{sym}
 use native.Mathlib.Omega.{arith}
 use borrow.Author.Needs.{needs}
 use Rattle.whole.specs.Signed.{withSign}
 use Rattle.whole.proofs.Signs.{natAbs-sign}
-use Rattle.projection.specs.Angle.{N}
 use Rattle.projection.proofs.Longitudes.{wrap-near, wrap-far}
 use Rattle.projection.proofs.longitude.wrapped.Statement.{statement}
 use Rattle.projection.proofs.longitude.wrapped.Tie as tie

@@ -1,53 +1,46 @@
 -- `projection::parallel::half_width` meets its contract: its tests are the conditions of the refusals, in their order.
-use mathlib.Core.Path.{_≡_, refl, sym, ap, _∙_}
-use mathlib.Core.Bool.{Bool, true, false, not}
-use Prim.Native.Nat.{_≤_}
+use mathlib.Core.Path.{_≡_, sym, ap, ap₂, _∙_}
+use mathlib.Core.Bool.{false, not}
 use borrow.Author.Needs.{needs}
-use borrow.Author.Tests.{ltb-false}
-use lib.IntN.{natAbs}
-use mir.Syntax.{w32}
-use mir.Val.{toZ, ofZ}
-use mir.Facts.{toZ-ofZ}
+use lib.Dec.{T}
 use Rattle.whole.specs.Signed.{joinOf}
-use Rattle.whole.proofs.Signs.{join-split, natAbs-join}
 use Rattle.projection.specs.Angle.{H, outside}
-use Rattle.projection.specs.Refusal.{isKind, unless}
-use Rattle.projection.specs.Answer.{widthOf}
+use Rattle.projection.specs.Parallel.{halfWidth}
+use Rattle.projection.specs.Refusal.{given, isKind, badKind, badLatitude}
 use Rattle.projection.proofs.Rows.{columns}
+use Rattle.projection.proofs.Judged.{not-false, number-is, size-is, within}
+use Rattle.projection.proofs.Orders.{Fails, width-1, width-5, width-given}
 use Rattle.projection.proofs.parallel.half_width.Statement.{statement}
 use Rattle.projection.proofs.parallel.half_width.Tie as tie
 
--- what a failed test of `!is_kind(kind)` says
-no-refusal : (b : Bool) → not b ≡ false → b ≡ true
-no-refusal true e = refl
-no-refusal false e = sym e
+-- the way back to what was handed in, from each test
+abbrev start1 : tie.Else1 → tie.Start
+start1 c = c .before .before
 
-kind-good : (c : tie.Else1) → isKind (c .before .before .args .kind) ≡ true
-kind-good c = sym (c .before .is-kind .ensures) ∙ no-refusal (c .before .is-kind .result) (c .if1 .left)
+abbrev start2 : tie.Else2 → tie.Start
+start2 c = start1 (c .before .before .before)
 
--- the angle is the latitude
-angle-is : (c : tie.After-new) → joinOf (c .new .result .count) ≡ c .before .before .before .args .latitude
-angle-is c =
-    ap joinOf (c .new .ensures)
-    ∙ join-split (toZ w32 (ofZ w32 (c .before .before .before .args .latitude)))
-    ∙ toZ-ofZ (c .before .before .before .fits .latitude)
+-- each test is the refusal's condition
+kind-test : (c : tie.After-is-kind) → not (c .is-kind .result) ≡ badKind (c .before .args .kind) .applies
+kind-test c = ap not (c .is-kind .ensures)
 
-size-is : (c : tie.After-new) → c .new .result .count .size ≡ natAbs (c .before .before .before .args .latitude)
-size-is c = sym (natAbs-join (c .new .result .count)) ∙ ap natAbs (angle-is c)
+kind-good : (c : tie.Else1) → Fails (badKind (start1 c .args .kind))
+kind-good c = sym (kind-test (c .before)) ∙ c .if1 .left
 
-outside-is : (c : tie.After-outside) → c .outside .result ≡ outside H (c .before .before .before .before .args .latitude)
-outside-is c = c .outside .ensures ∙ ap (outside H) (angle-is (c .before))
+latitude-is : (c : tie.After-new) → joinOf (c .new .result .count) ≡ start1 (c .before) .args .latitude
+latitude-is c = number-is (c .new .result .count) (start1 (c .before) .fits .latitude) (c .new .ensures)
 
--- a latitude that is not outside
-latitude-good : (c : tie.Else2) → outside H (c .before .before .before .before .before .args .latitude) ≡ false
-latitude-good c = sym (outside-is (c .before)) ∙ c .if2 .left
+latitude-test : (c : tie.After-outside) → c .outside .result ≡ badLatitude (start1 (c .before .before) .args .latitude) .applies
+latitude-test c = c .outside .ensures ∙ ap (outside H) (latitude-is (c .before))
+
+latitude-good : (c : tie.Else2) → Fails (badLatitude (start2 c .args .latitude))
+latitude-good c = sym (latitude-test (c .before)) ∙ c .if2 .left
 
 is-kind-requires : tie.Need-is-kind-requires
 is-kind-requires c κs = search needs
 
 returns : tie.Need-returns
-unfolding widthOf unless
-returns c = rw (← c .before .is-kind .ensures, c .if1 .taken)
+returns c = let s = c .before .before .args in width-1 (s .kind) (s .latitude) (sym (kind-test (c .before)) ∙ c .if1 .taken)
 
 new-requires : tie.Need-new-requires
 new-requires c κs = search needs
@@ -56,29 +49,32 @@ outside-requires : tie.Need-outside-requires
 outside-requires c κs = search needs
 
 returns-2 : tie.Need-returns-2
-unfolding widthOf unless
-returns-2 c = rw (kind-good (c .before .before .before), ← outside-is (c .before), c .if2 .taken)
+returns-2 c =
+    let c1 = c .before .before .before in
+    let s = start1 c1 .args in
+    width-5 (s .kind) (s .latitude) (kind-good c1) (sym (latitude-test (c .before)) ∙ c .if2 .taken)
+
+kind-true : (c : tie.Else2) → T (isKind (start2 c .args .kind))
+kind-true c = not-false (isKind (start2 c .args .kind)) (kind-good (c .before .before .before))
 
 row-of-requires : tie.Need-row-of-requires
-row-of-requires c κs = rw (kind-good (c .before .before .before .before)) tt
+row-of-requires c κs = kind-true (c .before)
 
 row-half-width-requires : tie.Need-row-half-width-requires
 row-half-width-requires c κs =
-    let s = c .before .before .before .before .before .before .before in
-    let p : natAbs (s .args .latitude) ≤ H = ltb-false H (natAbs (s .args .latitude)) (latitude-good (c .before .before)) in
-    rw (c .row-of .ensures, size-is (c .before .before .before .before))
-    (record { columns = columns (s .args .kind) (row-of-requires (c .before) κs); latitude = p })
+    let c2 = c .before .before in
+    record {
+      columns = rw (c .row-of .ensures) (columns (start2 c2 .args .kind) (kind-true c2));
+      latitude = within H (c2 .before .before .new .result .count) (c2 .before .outside .result) (c2 .before .outside .ensures) (c2 .if2 .left);
+    }
 
 returns-3 : tie.Need-returns-3
-unfolding widthOf unless
 returns-3 c =
-    rw (
-      kind-good (c .before .before .before .before .before .before),
-      latitude-good (c .before .before .before),
-      c .row-half-width .ensures,
-      c .before .row-of .ensures,
-      size-is (c .before .before .before .before .before),
-    )
+    let c2 = c .before .before .before in
+    let n = c2 .before .before in
+    let s = start2 c2 .args in
+    ap given (c .row-half-width .ensures ∙ ap₂ halfWidth (c .before .row-of .ensures) (size-is (n .new .result .count) (latitude-is n)))
+    ∙ width-given (s .kind) (s .latitude) (kind-good (n .before)) (latitude-good c2)
 
 pub half-width-spec : {M : Type 1} → statement M
 half-width-spec =

@@ -7,7 +7,8 @@ use Rattle.projection.proofs.Widths.{product-small, width-small}
 use Rattle.projection.proofs.parallel.row_half_width.Statement.{statement}
 use Rattle.projection.proofs.parallel.row_half_width.Tie as tie
 
-width-is : (c : tie.After-nearest) → c .nearest .result ≡ halfWidth (c .before .before .before .args .row) (c .before .before .before .args .p)
+width-is : (c : tie.After-nearest) →
+    c .nearest .result ≡ halfWidth (c .before .before .before .args .row) (c .before .before .before .args .p)
 unfolding halfWidth
 width-is c = rw (c .nearest .ensures, c .before .numerator .ensures)
 

@@ -1,6 +1,5 @@
 -- `projection::parallel::row_height` meets its contract: KY p stays inside 64 bits, and y below KY.
-use mathlib.Core.Path.{_≡_}
-use Prim.Native.Nat.{_≤_, _<_, _*_}
+use Prim.Native.Nat.{_≤_}
 use native.Mathlib.Omega.{arith}
 use borrow.Author.Needs.{needs}
 use Rattle.projection.specs.Angle.{N}

@@ -1,18 +1,14 @@
 -- `projection::place::forward` meets its contract: its tests are the conditions of the refusals, in their order.
 use mathlib.Core.Path.{_≡_, sym, ap, _∙_}
-use mathlib.Core.Bool.{Bool, true, false}
-use Prim.Native.Nat.{_≤_}
+use mathlib.Core.Bool.{false, not}
 use borrow.Author.Needs.{needs}
 use lib.Dec.{T}
-use lib.IntN.{natAbs}
 use Rattle.whole.specs.Signed.{joinOf}
 use Rattle.projection.specs.Angle.{N, H, outside}
-use Rattle.projection.specs.Table.{rowOf}
-use Rattle.projection.specs.Refusal.{isKind, unless}
-use Rattle.projection.specs.Columns.{Columns, Usable}
-use Rattle.projection.specs.Answer.{forwardOf}
+use Rattle.projection.specs.Refusal.{isKind, badKind, badCentral, badLongitude, badLatitude}
 use Rattle.projection.proofs.Rows.{columns}
 use Rattle.projection.proofs.Judged.{not-false, number-is, within}
+use Rattle.projection.proofs.Orders.{Fails, forward-1, forward-3, forward-4, forward-5, forward-given}
 use Rattle.projection.proofs.place.forward.Statement.{statement}
 use Rattle.projection.proofs.place.forward.Tie as tie
 
@@ -29,8 +25,12 @@ start3 c = start2 (c .before .before .before)
 abbrev start4 : tie.Else4 → tie.Start
 start4 c = start3 (c .before .before .before)
 
-kind-good : (c : tie.Else1) → isKind (start1 c .args .kind) ≡ true
-kind-good c = sym (c .before .is-kind .ensures) ∙ not-false (c .before .is-kind .result) (c .if1 .left)
+-- the test of the kind is the refusal's condition
+kind-test : (c : tie.After-is-kind) → not (c .is-kind .result) ≡ badKind (c .before .args .kind) .applies
+kind-test c = ap not (c .is-kind .ensures)
+
+kind-good : (c : tie.Else1) → Fails (badKind (start1 c .args .kind))
+kind-good c = sym (kind-test (c .before)) ∙ c .if1 .left
 
 -- each angle is the number handed in
 central-is : (c : tie.After-new) → joinOf (c .new .result .count) ≡ start1 (c .before) .args .central
@@ -42,31 +42,33 @@ longitude-is c = number-is (c .new2 .result .count) (start2 (c .before) .fits .l
 latitude-is : (c : tie.After-new3) → joinOf (c .new3 .result .count) ≡ start3 (c .before) .args .latitude
 latitude-is c = number-is (c .new3 .result .count) (start3 (c .before) .fits .latitude) (c .new3 .ensures)
 
--- each test is the refusal's condition
-central-test : (c : tie.After-outside) → c .outside .result ≡ outside N (start1 (c .before .before) .args .central)
+-- so is the test of each angle
+central-test : (c : tie.After-outside) → c .outside .result ≡ badCentral (start1 (c .before .before) .args .central) .applies
 central-test c = c .outside .ensures ∙ ap (outside N) (central-is (c .before))
 
-longitude-test : (c : tie.After-outside2) → c .outside2 .result ≡ outside N (start2 (c .before .before) .args .longitude)
+longitude-test : (c : tie.After-outside2) →
+    c .outside2 .result ≡ badLongitude (start2 (c .before .before) .args .longitude) .applies
 longitude-test c = c .outside2 .ensures ∙ ap (outside N) (longitude-is (c .before))
 
-latitude-test : (c : tie.After-outside3) → c .outside3 .result ≡ outside H (start3 (c .before .before) .args .latitude)
+latitude-test : (c : tie.After-outside3) → c .outside3 .result ≡ badLatitude (start3 (c .before .before) .args .latitude) .applies
 latitude-test c = c .outside3 .ensures ∙ ap (outside H) (latitude-is (c .before))
 
-central-good : (c : tie.Else2) → outside N (start2 c .args .central) ≡ false
+central-good : (c : tie.Else2) → Fails (badCentral (start2 c .args .central))
 central-good c = sym (central-test (c .before)) ∙ c .if2 .left
 
-longitude-good : (c : tie.Else3) → outside N (start3 c .args .longitude) ≡ false
+longitude-good : (c : tie.Else3) → Fails (badLongitude (start3 c .args .longitude))
 longitude-good c = sym (longitude-test (c .before)) ∙ c .if3 .left
 
-latitude-good : (c : tie.Else4) → outside H (start4 c .args .latitude) ≡ false
+latitude-good : (c : tie.Else4) → Fails (badLatitude (start4 c .args .latitude))
 latitude-good c = sym (latitude-test (c .before)) ∙ c .if4 .left
 
 is-kind-requires : tie.Need-is-kind-requires
 is-kind-requires c κs = search needs
 
 returns : tie.Need-returns
-unfolding forwardOf unless
-returns c = rw (← c .before .is-kind .ensures, c .if1 .taken)
+returns c =
+    let s = c .before .before .args in
+    forward-1 (s .kind) (s .central) (s .longitude) (s .latitude) (sym (kind-test (c .before)) ∙ c .if1 .taken)
 
 new-requires : tie.Need-new-requires
 new-requires c κs = search needs
@@ -75,8 +77,10 @@ outside-requires : tie.Need-outside-requires
 outside-requires c κs = search needs
 
 returns-2 : tie.Need-returns-2
-unfolding forwardOf unless
-returns-2 c = rw (kind-good (c .before .before .before), ← central-test (c .before), c .if2 .taken)
+returns-2 c =
+    let c1 = c .before .before .before in
+    let s = start1 c1 .args in
+    forward-3 (s .kind) (s .central) (s .longitude) (s .latitude) (kind-good c1) (sym (central-test (c .before)) ∙ c .if2 .taken)
 
 new-requires-2 : tie.Need-new-requires-2
 new-requires-2 c κs = search needs
@@ -85,10 +89,11 @@ outside-requires-2 : tie.Need-outside-requires-2
 outside-requires-2 c κs = search needs
 
 returns-3 : tie.Need-returns-3
-unfolding forwardOf unless
 returns-3 c =
     let c2 = c .before .before .before in
-    rw (kind-good (c2 .before .before .before), central-good c2, ← longitude-test (c .before), c .if3 .taken)
+    let s = start2 c2 .args in
+    forward-4 (s .kind) (s .central) (s .longitude) (s .latitude) (kind-good (c2 .before .before .before)) (central-good c2)
+    (sym (longitude-test (c .before)) ∙ c .if3 .taken)
 
 new-requires-3 : tie.Need-new-requires-3
 new-requires-3 c κs = search needs
@@ -97,14 +102,15 @@ outside-requires-3 : tie.Need-outside-requires-3
 outside-requires-3 c κs = search needs
 
 returns-4 : tie.Need-returns-4
-unfolding forwardOf unless
 returns-4 c =
     let c3 = c .before .before .before in
     let c2 = c3 .before .before .before in
-    rw (kind-good (c2 .before .before .before), central-good c2, longitude-good c3, ← latitude-test (c .before), c .if4 .taken)
+    let s = start3 c3 .args in
+    forward-5 (s .kind) (s .central) (s .longitude) (s .latitude) (kind-good (c2 .before .before .before)) (central-good c2) (longitude-good c3)
+    (sym (latitude-test (c .before)) ∙ c .if4 .taken)
 
 kind-true : (c : tie.Else4) → T (isKind (start4 c .args .kind))
-kind-true c = let c2 = c .before .before .before .before .before .before in rw (kind-good (c2 .before .before .before)) tt
+kind-true c = let c2 = c .before .before .before .before .before .before in not-false (isKind (start4 c .args .kind)) (kind-good (c2 .before .before .before))
 
 row-of-requires : tie.Need-row-of-requires
 row-of-requires c κs = kind-true c
@@ -123,13 +129,14 @@ place-requires c κs =
     )
 
 returns-5 : tie.Need-returns-5
-unfolding forwardOf unless
 returns-5 c =
     let c4 = c .before .before in
     let c3 = c4 .before .before .before in
     let c2 = c3 .before .before .before in
-    rw (kind-good (c2 .before .before .before), central-good c2, longitude-good c3, latitude-good c4)
-    (rw (c .before .row-of .ensures, central-is (c2 .before .before), longitude-is (c3 .before .before), latitude-is (c4 .before .before)) at (c .place .ensures))
+    let s = start4 c4 .args in
+    rw (c .before .row-of .ensures, central-is (c2 .before .before), longitude-is (c3 .before .before), latitude-is (c4 .before .before)) at (c .place .ensures)
+    ∙ forward-given (s .kind) (s .central) (s .longitude) (s .latitude) (kind-good (c2 .before .before .before)) (central-good c2) (longitude-good c3)
+    (latitude-good c4)
 
 pub forward-spec : {M : Type 1} → statement M
 forward-spec =

@@ -28,7 +28,9 @@ d-le c =
     (difference-le (joinOf (s .args .central)) (joinOf (s .args .longitude)) (rw (natAbs-join (s .args .central)) (s .pre .1))
     (rw (natAbs-join (s .args .longitude)) (s .pre .2)))
 
-x-is : (c : tie.After-scaled) → joinOf (c .scaled .result) ≡ xOf (halfWidth (c .before .before .before .args .row) (natAbs (joinOf (c .before .before .before .args .latitude)))) (differenceOf (joinOf (c .before .before .before .args .central)) (joinOf (c .before .before .before .args .longitude)))
+x-is : (c : tie.After-scaled) →
+    let s = c .before .before .before .args in
+    joinOf (c .scaled .result) ≡ xOf (halfWidth (s .row) (natAbs (joinOf (s .latitude)))) (differenceOf (joinOf (s .central)) (joinOf (s .longitude)))
 unfolding xOf
 x-is c =
     let s = c .before .before .before .args in
@@ -56,8 +58,10 @@ pair-requires c κs =
     let x = scaled-size (c .before .scaled .result) d w (c .before .scaled .ensures) in
     let y = scaled-size (c .scaled2 .result) (s .args .latitude) (s .args .row .ky) (c .scaled2 .ensures) in
     let l : s .args .latitude .size ≤ N = let h = s .pre .0 .latitude in omega arith in
-    let k = s .pre .0 .columns .ky-high in
-    (omega (arith, width-below (c .before .before .before), scaled-le w (d .size) (d-le (c .before .before))), omega (arith, scaled-le (s .args .row .ky) (s .args .latitude .size) l))
+    let k = s .pre .0 .columns .ky-high in (
+      omega (arith, width-below (c .before .before .before), scaled-le w (d .size) (d-le (c .before .before))),
+      omega (arith, scaled-le (s .args .row .ky) (s .args .latitude .size) l),
+    )
 
 returns : tie.Need-returns
 unfolding placeOf yOf

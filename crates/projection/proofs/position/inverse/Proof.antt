@@ -1,15 +1,14 @@
 -- `projection::position::inverse` meets its contract: its tests are the conditions of 1 and 3, and its row answers the rest.
 use mathlib.Core.Path.{_≡_, sym, ap, _∙_}
-use mathlib.Core.Bool.{Bool, true, false}
-use Prim.Native.Nat.{_≤_}
+use mathlib.Core.Bool.{false, not}
 use borrow.Author.Needs.{needs}
 use lib.Dec.{T}
 use Rattle.whole.specs.Signed.{joinOf}
 use Rattle.projection.specs.Angle.{N, outside}
-use Rattle.projection.specs.Refusal.{isKind, unless}
-use Rattle.projection.specs.Answer.{inverseOf}
+use Rattle.projection.specs.Refusal.{isKind, badKind, badCentral}
 use Rattle.projection.proofs.Rows.{columns}
 use Rattle.projection.proofs.Judged.{not-false, number-is, within}
+use Rattle.projection.proofs.Orders.{Fails, inverse-1, inverse-3, inverse-row}
 use Rattle.projection.proofs.position.inverse.Statement.{statement}
 use Rattle.projection.proofs.position.inverse.Tie as tie
 
@@ -20,16 +19,20 @@ start1 c = c .before .before
 abbrev start2 : tie.Else2 → tie.Start
 start2 c = start1 (c .before .before .before)
 
-kind-good : (c : tie.Else1) → isKind (start1 c .args .kind) ≡ true
-kind-good c = sym (c .before .is-kind .ensures) ∙ not-false (c .before .is-kind .result) (c .if1 .left)
+-- each test is the refusal's condition
+kind-test : (c : tie.After-is-kind) → not (c .is-kind .result) ≡ badKind (c .before .args .kind) .applies
+kind-test c = ap not (c .is-kind .ensures)
+
+kind-good : (c : tie.Else1) → Fails (badKind (start1 c .args .kind))
+kind-good c = sym (kind-test (c .before)) ∙ c .if1 .left
 
 central-is : (c : tie.After-new) → joinOf (c .new .result .count) ≡ start1 (c .before) .args .central
 central-is c = number-is (c .new .result .count) (start1 (c .before) .fits .central) (c .new .ensures)
 
-central-test : (c : tie.After-outside) → c .outside .result ≡ outside N (start1 (c .before .before) .args .central)
+central-test : (c : tie.After-outside) → c .outside .result ≡ badCentral (start1 (c .before .before) .args .central) .applies
 central-test c = c .outside .ensures ∙ ap (outside N) (central-is (c .before))
 
-central-good : (c : tie.Else2) → outside N (start2 c .args .central) ≡ false
+central-good : (c : tie.Else2) → Fails (badCentral (start2 c .args .central))
 central-good c = sym (central-test (c .before)) ∙ c .if2 .left
 
 x-is : (c : tie.After-split) → joinOf (c .split .result) ≡ start2 (c .before .before) .args .x
@@ -42,8 +45,9 @@ is-kind-requires : tie.Need-is-kind-requires
 is-kind-requires c κs = search needs
 
 returns : tie.Need-returns
-unfolding inverseOf unless
-returns c = rw (← c .before .is-kind .ensures, c .if1 .taken)
+returns c =
+    let s = c .before .before .args in
+    inverse-1 (s .kind) (s .central) (s .x) (s .y) (sym (kind-test (c .before)) ∙ c .if1 .taken)
 
 new-requires : tie.Need-new-requires
 new-requires c κs = search needs
@@ -52,11 +56,13 @@ outside-requires : tie.Need-outside-requires
 outside-requires c κs = search needs
 
 returns-2 : tie.Need-returns-2
-unfolding inverseOf unless
-returns-2 c = rw (kind-good (c .before .before .before), ← central-test (c .before), c .if2 .taken)
+returns-2 c =
+    let c1 = c .before .before .before in
+    let s = start1 c1 .args in
+    inverse-3 (s .kind) (s .central) (s .x) (s .y) (kind-good c1) (sym (central-test (c .before)) ∙ c .if2 .taken)
 
 kind-true : (c : tie.Else2) → T (isKind (start2 c .args .kind))
-kind-true c = rw (kind-good (c .before .before .before)) tt
+kind-true c = not-false (isKind (start2 c .args .kind)) (kind-good (c .before .before .before))
 
 row-of-requires : tie.Need-row-of-requires
 row-of-requires c κs = kind-true c
@@ -76,13 +82,13 @@ position-requires c κs =
     )
 
 returns-3 : tie.Need-returns-3
-unfolding inverseOf unless
 returns-3 c =
-    let s = c .before .before in
-    let r = s .before in
+    let i = c .before .before in
+    let r = i .before in
     let c2 = r .before in
-    rw (kind-good (c2 .before .before .before), central-good c2)
-    (rw (r .row-of .ensures, central-is (c2 .before .before), x-is s, y-is (c .before)) at (c .position .ensures))
+    let s = start2 c2 .args in
+    rw (r .row-of .ensures, central-is (c2 .before .before), x-is i, y-is (c .before)) at (c .position .ensures)
+    ∙ inverse-row (s .kind) (s .central) (s .x) (s .y) (kind-good (c2 .before .before .before)) (central-good c2)
 
 pub inverse-spec : {M : Type 1} → statement M
 inverse-spec =

@@ -1,25 +1,25 @@
 -- `projection::position::position` meets its contract: its tests are the conditions of 6 and 7, in their order.
 use mathlib.Core.Path.{_≡_, sym, ap, ap₂, _∙_}
-use mathlib.Core.Bool.{Bool, true, false}
-use Prim.Native.Nat.{ℕ, _*_, _≤_, _<_}
+use mathlib.Core.Bool.{true, false}
+use Prim.Native.Nat.{ℕ, _*_, _≤_}
 use native.Mathlib.Omega.{arith}
 use borrow.Author.Needs.{needs}
 use borrow.Author.Tests.{lt-ltb, le-ltb}
 use lib.IntN.{ℤ, pos, natAbs, _+ℤ_, _*ℤ_}
-use Rattle.whole.specs.Nearest.{nearest}
 use Rattle.whole.specs.Signed.{joinOf, nearestSigned}
 use Rattle.whole.proofs.Signs.{natAbs-join}
-use Rattle.projection.specs.Angle.{N, H, outside}
+use Rattle.projection.specs.Angle.{N, H}
 use Rattle.projection.specs.Longitude.{wrap}
 use Rattle.projection.specs.Parallel.{halfWidth, height}
-use Rattle.projection.specs.Inverse.{parallelAt, latitudeAt, widthAt, differenceAt, positionOf}
-use Rattle.projection.specs.Refusal.{given, unless}
+use Rattle.projection.specs.Inverse.{parallelAt, widthAt, differenceAt, positionOf}
+use Rattle.projection.specs.Refusal.{given, badY, badX}
 use Rattle.projection.specs.Columns.{Usable}
 use Rattle.projection.proofs.Longitudes.{longitude-le}
 use Rattle.projection.proofs.Scales.{unscaled-le, unscaled-size}
 use Rattle.projection.proofs.Places.{height-le}
 use Rattle.projection.proofs.Found.{parallel-le, latitude-is, difference-is}
 use Rattle.projection.proofs.Judged.{size-is}
+use Rattle.projection.proofs.Orders.{Fails, Holds, row-6, row-7, row-given}
 use Rattle.projection.proofs.position.position.Statement.{statement}
 use Rattle.projection.proofs.position.position.Tie as tie
 
@@ -34,13 +34,14 @@ start2 c = start1 (c .before .before .before .before)
 y-le : (c : tie.Else1) → start1 c .args .y .size ≤ height (start1 c .args .row) H
 y-le c = omega (arith, c .if1 .left, c .before .before .row-height .ensures)
 
-y-good : (c : tie.Else1) → outside (height (start1 c .args .row) H) (joinOf (start1 c .args .y)) ≡ false
+y-good : (c : tie.Else1) → Fails (badY (start1 c .args .row) (joinOf (start1 c .args .y)))
 y-good c =
     let s = start1 c .args in
     le-ltb (height (s .row) H) (natAbs (joinOf (s .y))) (rw (natAbs-join (s .y)) (y-le c))
 
 -- the parallel found
-parallel-is : (c : tie.After-unscaled) → c .unscaled .result .size ≡ parallelAt (start1 (c .before) .args .row) (start1 (c .before) .args .y .size)
+parallel-is : (c : tie.After-unscaled) →
+    c .unscaled .result .size ≡ parallelAt (start1 (c .before) .args .row) (start1 (c .before) .args .y .size)
 unfolding parallelAt
 parallel-is c =
     let s = start1 (c .before) .args in
@@ -51,7 +52,9 @@ usable c =
     let s = start1 (c .before) in
     record { columns = s .pre .0; latitude = rw (parallel-is c) (parallel-le (s .args .row) (s .pre .0) (s .args .y .size) (y-le (c .before))) }
 
-width-is : (c : tie.After-row-half-width) → c .row-half-width .result ≡ widthAt (start1 (c .before .before) .args .row) (joinOf (start1 (c .before .before) .args .y))
+width-is : (c : tie.After-row-half-width) →
+    let s = start1 (c .before .before) .args in
+    c .row-half-width .result ≡ widthAt (s .row) (joinOf (s .y))
 unfolding widthAt
 width-is c =
     let s = start1 (c .before .before) .args in
@@ -61,7 +64,7 @@ width-is c =
 x-le : (c : tie.Else2) → start2 c .args .x .size ≤ c .before .before .row-half-width .result
 x-le c = omega (arith, c .if2 .left)
 
-x-good : (c : tie.Else2) → outside (widthAt (start2 c .args .row) (joinOf (start2 c .args .y))) (joinOf (start2 c .args .x)) ≡ false
+x-good : (c : tie.Else2) → let s = start2 c .args in Fails (badX (s .row) (joinOf (s .x)) (joinOf (s .y)))
 x-good c =
     let s = start2 c .args in
     le-ltb (widthAt (s .row) (joinOf (s .y))) (natAbs (joinOf (s .x))) (rw (← width-is (c .before .before), natAbs-join (s .x)) (x-le c))
@@ -73,7 +76,9 @@ difference-small c =
     rw (unscaled-size (c .unscaled2 .result) x w (c .unscaled2 .ensures)) (unscaled-le w (x .size) (x-le (c .before)))
 
 -- the longitude, by the difference found
-longitude-is : (c : tie.After-sum) → joinOf (c .sum .result) ≡ wrap (joinOf (start2 (c .before .before) .args .central) +ℤ differenceAt (widthAt (start2 (c .before .before) .args .row) (joinOf (start2 (c .before .before) .args .y))) (joinOf (start2 (c .before .before) .args .x)))
+longitude-is : (c : tie.After-sum) →
+    let s = start2 (c .before .before) .args in
+    joinOf (c .sum .result) ≡ wrap (joinOf (s .central) +ℤ differenceAt (widthAt (s .row) (joinOf (s .y))) (joinOf (s .x)))
 longitude-is c =
     let s = start2 (c .before .before) .args in
     let r = c .before .before .before .before in
@@ -86,12 +91,15 @@ longitude-is c =
 row-height-requires : tie.Need-row-height-requires
 row-height-requires c κs = search needs
 
+y-bad : (c : tie.Then1) → let s = c .before .before .before .args in Holds (badY (s .row) (joinOf (s .y)))
+y-bad c =
+    let s = c .before .before .before .args in
+    lt-ltb (height (s .row) H) (natAbs (joinOf (s .y))) (rw (natAbs-join (s .y)) (omega (arith, c .if1 .taken, c .before .before .row-height .ensures)))
+
 returns : tie.Need-returns
-unfolding unless
 returns c =
     let s = c .before .before .before .args in
-    let t = lt-ltb (height (s .row) H) (natAbs (joinOf (s .y))) (rw (natAbs-join (s .y)) (omega (arith, c .if1 .taken, c .before .before .row-height .ensures))) in
-    rw t
+    row-6 (s .row) (joinOf (s .central)) (joinOf (s .x)) (joinOf (s .y)) (y-bad c)
 
 unscaled-requires : tie.Need-unscaled-requires
 unscaled-requires c κs = omega (arith, y-le c, height-le (start1 c .args .row) H (omega arith))
@@ -101,13 +109,19 @@ row-half-width-requires c κs =
     let u = usable c in
     record { columns = u .columns; latitude = omega (arith, u .latitude) }
 
-returns-2 : tie.Need-returns-2
-unfolding unless
-returns-2 c =
+x-bad : (c : tie.Then2) →
+    let s = start1 (c .before .before .before .before) .args in
+    Holds (badX (s .row) (joinOf (s .x)) (joinOf (s .y)))
+x-bad c =
     let r = c .before .before in
     let s = start1 (r .before .before) .args in
-    let t = lt-ltb (widthAt (s .row) (joinOf (s .y))) (natAbs (joinOf (s .x))) (rw (← width-is r, natAbs-join (s .x)) (omega (arith, c .if2 .taken))) in
-    rw (y-good (r .before .before), t)
+    lt-ltb (widthAt (s .row) (joinOf (s .y))) (natAbs (joinOf (s .x))) (rw (← width-is r, natAbs-join (s .x)) (omega (arith, c .if2 .taken)))
+
+returns-2 : tie.Need-returns-2
+returns-2 c =
+    let c1 = c .before .before .before .before in
+    let s = start1 c1 .args in
+    row-7 (s .row) (joinOf (s .central)) (joinOf (s .x)) (joinOf (s .y)) (y-good c1) (x-bad c)
 
 unscaled-requires-2 : tie.Need-unscaled-requires-2
 unscaled-requires-2 c κs = omega (arith, x-le c)
@@ -125,13 +139,14 @@ pair-requires c κs =
     (omega arith, omega arith)
 
 returns-3 : tie.Need-returns-3
-unfolding unless positionOf
+unfolding positionOf
 returns-3 c =
     let c2 = c .before .before .before in
     let u = c2 .before .before .before in
     let s = start2 c2 .args in
-    rw (y-good (u .before), x-good c2)
-    (c .pair .ensures ∙ ap₂ (λ (x y : ℤ). given (x, y)) (longitude-is (c .before)) (u .unscaled .ensures ∙ sym (latitude-is (s .row) (joinOf (s .y)))))
+    c .pair .ensures
+    ∙ ap₂ (λ (x y : ℤ). given (x, y)) (longitude-is (c .before)) (u .unscaled .ensures ∙ sym (latitude-is (s .row) (joinOf (s .y))))
+    ∙ row-given (s .row) (joinOf (s .central)) (joinOf (s .x)) (joinOf (s .y)) (y-good (u .before)) (x-good c2)
 
 pub position-spec : {M : Type 1} → statement M
 position-spec =
