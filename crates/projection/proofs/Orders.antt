@@ -1,6 +1,5 @@
 -- The answer of each call, refusal by refusal in its order.
 use mathlib.Core.Bool.{true, false}
-use mathlib.Core.List.{[], _∷_}
 use mathlib.Core.Path.{_≡_}
 use Prim.Native.Nat.{ℕ}
 use lib.IntN.{ℤ, natAbs}
@@ -11,6 +10,7 @@ use Rattle.projection.specs.Forward.{placeOf}
 use Rattle.projection.specs.Inverse.{positionOf}
 use Rattle.projection.specs.Refusal.{Refusal, refused, given, unless, badKind, badCentral, badLongitude, badLatitude, badY, badX}
 use Rattle.projection.specs.Answer.{widthOf, forwardOf, inverseOf}
+use Rattle.projection.specs.Columns.{onRow}
 
 -- a refusal's condition holds, or not
 abbrev pub Holds : Refusal → Type 0
@@ -68,20 +68,19 @@ module _ (kind : ℕ) (central x y : ℤ) where
   inverse-3 k c = rw (k, c)
 
   pub inverse-row : Fails (badKind kind) → Fails (badCentral central) →
-      unless (badY (rowOf kind) y ∷ badX (rowOf kind) x y ∷ []) (positionOf (rowOf kind) central x y) ≡ inverseOf kind central x y
-  unfolding inverseOf unless
+      onRow (rowOf kind) central x y ≡ inverseOf kind central x y
+  unfolding inverseOf onRow unless
   inverse-row k c = rw (k, c)
 
 module _ (r : Row) (central x y : ℤ) where
-  pub row-6 : Holds (badY r y) → refused 6 ≡ unless (badY r y ∷ badX r x y ∷ []) (positionOf r central x y)
-  unfolding unless
+  pub row-6 : Holds (badY r y) → refused 6 ≡ onRow r central x y
+  unfolding onRow unless
   row-6 h = rw h
 
-  pub row-7 : Fails (badY r y) → Holds (badX r x y) → refused 7 ≡ unless (badY r y ∷ badX r x y ∷ []) (positionOf r central x y)
-  unfolding unless
+  pub row-7 : Fails (badY r y) → Holds (badX r x y) → refused 7 ≡ onRow r central x y
+  unfolding onRow unless
   row-7 h k = rw (h, k)
 
-  pub row-given : Fails (badY r y) → Fails (badX r x y) →
-      given (positionOf r central x y) ≡ unless (badY r y ∷ badX r x y ∷ []) (positionOf r central x y)
-  unfolding unless
+  pub row-given : Fails (badY r y) → Fails (badX r x y) → given (positionOf r central x y) ≡ onRow r central x y
+  unfolding onRow unless
   row-given h k = rw (h, k)

@@ -1,4 +1,5 @@
--- What the rows of the table have in common.
+-- What the rows of the table have in common, and what only private functions speak of.
+use mathlib.Core.List.{[], _∷_}
 use Prim.Native.Nat.{ℕ, _+_, _*_, _^_, _≤_, _<_, max}
 use lib.IntN.{ℤ, pos, natAbs, _+ℤ_, _*ℤ_}
 use Rattle.whole.specs.Signed.{plus, minus}
@@ -7,6 +8,8 @@ use Rattle.projection.specs.declared.table.Method.{Method}
 use Rattle.projection.specs.declared.table.Method.the-variants.{Unused, Root, Quotient}
 use Rattle.projection.specs.Angle.{N, H, M}
 use Rattle.projection.specs.Parallel.{radicand, rootBy, rootAt, numerator}
+use Rattle.projection.specs.Inverse.{positionOf}
+use Rattle.projection.specs.Refusal.{Outcome, unless, badY, badX}
 
 -- x u + y v, for signed x and y: s and a M + b q are such sums
 unfoldable pub combined : ℤ → ℕ → ℤ → ℕ → ℕ
@@ -61,3 +64,7 @@ pub record Columns (r : Row) : Type 0 where
 pub record Usable (r : Row) (p : ℕ) : Type 0 where
   pub columns : Columns r
   pub latitude : p ≤ H
+
+-- what a row answers to a place: 6, 7, or its position
+unfoldable pub onRow : Row → ℤ → ℤ → ℤ → Outcome (ℤ × ℤ)
+onRow r central x y = unless (badY r y ∷ badX r x y ∷ []) (positionOf r central x y)

@@ -1,12 +1,9 @@
 // Inverse: the position of a place.
-ghost use mathlib.Core.List.{[], _∷_};
 ghost use mathlib.Core.Path.{_≡_};
 ghost use Prim.Native.Nat.{_≤_};
 ghost use Rattle.whole.specs.Signed.{joinOf};
 ghost use Rattle.projection.specs.Angle.{N};
-ghost use Rattle.projection.specs.Inverse.{positionOf};
-ghost use Rattle.projection.specs.Refusal.{unless, badY, badX};
-ghost use Rattle.projection.specs.Columns.{Columns};
+ghost use Rattle.projection.specs.Columns.{Columns, onRow};
 ghost use Rattle.projection.specs.Answer.{meaning, inverseOf};
 use super::angle::Angle;
 use super::answer::Answer;
@@ -42,7 +39,7 @@ pub fn inverse(kind: u8, central: i32, x: i32, y: i32) -> Answer
 // The position of a row at a place, where the row has one there.
 fn position(row: Row, central: Signed, x: Signed, y: Signed) -> Answer
     requires { ⌜ Columns row × (central .size ≤ N) ⌝ }
-    ensures { λ r. ⌜ meaning r ≡ unless (badY row (joinOf y) ∷ badX row (joinOf x) (joinOf y) ∷ []) (positionOf row (joinOf central) (joinOf x) (joinOf y)) ⌝ }
+    ensures { λ r. ⌜ meaning r ≡ onRow row (joinOf central) (joinOf x) (joinOf y) ⌝ }
 {
     if row_height(row, Angle::H) < y.size {
         return Answer::Refused(6);

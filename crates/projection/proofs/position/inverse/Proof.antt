@@ -1,6 +1,6 @@
 -- `projection::position::inverse` meets its contract: its tests are the conditions of 1 and 3, and its row answers the rest.
 use mathlib.Core.Path.{_≡_, sym, ap, _∙_}
-use mathlib.Core.Bool.{false, not}
+use mathlib.Core.Bool.{not}
 use borrow.Author.Needs.{needs}
 use lib.Dec.{T}
 use Rattle.whole.specs.Signed.{joinOf}
