@@ -14,7 +14,7 @@ use Rattle.projection.specs.Table.{rowOf}
 use Rattle.projection.specs.Parallel.{halfWidth, height}
 use Rattle.projection.specs.Longitude.{wrap, differenceOf, longitudeOf}
 use Rattle.projection.specs.Forward.{xOf, yOf, placeOf}
-use Rattle.projection.specs.Inverse.{parallelAt, latitudeAt, widthAt, differenceAt, positionOf}
+use Rattle.projection.specs.Inverse.{latitudeSize, latitudeAt, widthAt, differenceAt, positionOf}
 use Rattle.projection.specs.Refusal.{given}
 use Rattle.projection.specs.Columns.{Columns}
 use Rattle.projection.specs.Answer.{inverseOf}
@@ -23,7 +23,7 @@ use Rattle.projection.proofs.Widths.{width-small}
 use Rattle.projection.proofs.Longitudes.{longitude-le}
 use Rattle.projection.proofs.Scales.{scaled-zero, unscaled-le}
 use Rattle.projection.proofs.Places.{x-on, y-on, height-zero, height-near}
-use Rattle.projection.proofs.Found.{parallel-near, parallel-le, difference-on}
+use Rattle.projection.proofs.Found.{latitude-near, latitude-le, difference-on}
 use Rattle.claims.specs.Demand3.{numbers, Close, Resends}
 use Rattle.claims.proofs.Accepted.{Position, accepts, Place, place}
 use Rattle.claims.proofs.Returning.{not-zero}
@@ -56,12 +56,12 @@ module _ (kind : ℕ) (c x y : ℤ) (p : Place kind c x y) where
   cols : Columns r
   cols = columns kind (p .kind-good)
 
-  latitude-size : natAbs f ≡ parallelAt r (natAbs y)
+  latitude-size : natAbs f ≡ latitudeSize r (natAbs y)
   unfolding latitudeAt
-  latitude-size = natAbs-on (parallelAt r) y
+  latitude-size = natAbs-on (latitudeSize r) y
 
-  parallel-low : parallelAt r (natAbs y) ≤ H
-  parallel-low = parallel-le r cols (natAbs y) (p .y-le)
+  size-low : latitudeSize r (natAbs y) ≤ H
+  size-low = latitude-le r cols (natAbs y) (p .y-le)
 
   width-same : halfWidth r (natAbs f) ≡ w
   unfolding widthAt
@@ -69,20 +69,20 @@ module _ (kind : ℕ) (c x y : ℤ) (p : Place kind c x y) where
 
   width-below : w < 5 * N
   unfolding widthAt
-  width-below = width-small r (parallelAt r (natAbs y)) (record { columns = cols; latitude = parallel-low })
+  width-below = width-small r (latitudeSize r (natAbs y)) (record { columns = cols; latitude = size-low })
 
   d-le : natAbs d ≤ N
   d-le = rw (difference-on w x, natAbs-on (λ (n : ℕ). nearest (n * N) w) x) (unscaled-le w (natAbs x) (p .x-le))
 
   here : Position kind c l f
-  here = record { kind-good = p .kind-good; c-le = p .c-le; l-le = longitude-le c d (p .c-le) d-le; f-le = rw latitude-size parallel-low }
+  here = record { kind-good = p .kind-good; c-le = p .c-le; l-le = longitude-le c d (p .c-le) d-le; f-le = rw latitude-size size-low }
 
   y-close : Close (yOf r f) y
   unfolding latitudeAt
   y-close =
-      let q = parallelAt r (natAbs y) in
-      let b = back-within N (r .ky) (natAbs y) q (height r q) (cols .ky-high) (parallel-near r cols (natAbs y)) (height-near r q) in
-      rw (y-on r f) (omega (arith, on-within (parallelAt r) (height r) 2 (height-zero r) y b))
+      let q = latitudeSize r (natAbs y) in
+      let b = back-within N (r .ky) (natAbs y) q (height r q) (cols .ky-high) (latitude-near r cols (natAbs y)) (height-near r q) in
+      rw (y-on r f) (omega (arith, on-within (latitudeSize r) (height r) 2 (height-zero r) y b))
 
   x-again : Close (xOf w d) x
   x-again =

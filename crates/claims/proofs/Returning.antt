@@ -15,7 +15,7 @@ use Rattle.projection.specs.Table.{rowOf}
 use Rattle.projection.specs.Parallel.{halfWidth, height}
 use Rattle.projection.specs.Longitude.{wrap, differenceOf, longitudeOf}
 use Rattle.projection.specs.Forward.{xOf, yOf, placeOf}
-use Rattle.projection.specs.Inverse.{parallelAt, latitudeAt, widthAt, differenceAt, positionOf}
+use Rattle.projection.specs.Inverse.{latitudeSize, latitudeAt, widthAt, differenceAt, positionOf}
 use Rattle.projection.specs.Refusal.{given}
 use Rattle.projection.specs.Columns.{Columns}
 use Rattle.projection.specs.Answer.{forwardOf}
@@ -23,7 +23,7 @@ use Rattle.projection.proofs.Rows.{columns}
 use Rattle.projection.proofs.Longitudes.{difference-le}
 use Rattle.projection.proofs.Scales.{scaled-le, unscaled-zero}
 use Rattle.projection.proofs.Places.{x-on, y-on, height-near, height-mono}
-use Rattle.projection.proofs.Found.{parallel-near, parallel-zero, difference-on}
+use Rattle.projection.proofs.Found.{latitude-near, latitude-zero, difference-on}
 use Rattle.claims.specs.Demand3.{numbers, SameAt, Returns}
 use Rattle.claims.proofs.Accepted.{Position, position, Place, admits}
 use Rattle.claims.proofs.Wraps.{Ends, there-and-back}
@@ -59,18 +59,18 @@ module _ (kind : ℕ) (c l f : ℤ) (p : Position kind c l f) where
   y-size : natAbs y ≡ height r (natAbs f)
   y-size = ap natAbs (y-on r f) ∙ natAbs-on (height r) f
 
-  parallel-back : parallelAt r (height r (natAbs f)) ≡ natAbs f
-  parallel-back =
-      return N (r .ky) (natAbs f) (height r (natAbs f)) (parallelAt r (height r (natAbs f))) (omega arith) (omega (arith, cols .ky-low))
-      (height-near r (natAbs f)) (parallel-near r cols (height r (natAbs f)))
+  size-comes-back : latitudeSize r (height r (natAbs f)) ≡ natAbs f
+  size-comes-back =
+      return N (r .ky) (natAbs f) (height r (natAbs f)) (latitudeSize r (height r (natAbs f))) (omega arith) (omega (arith, cols .ky-low))
+      (height-near r (natAbs f)) (latitude-near r cols (height r (natAbs f)))
 
   latitude-back : latitudeAt r y ≡ f
   unfolding latitudeAt
-  latitude-back = ap (onSize (parallelAt r)) (y-on r f) ∙ on-back (height r) (parallelAt r) (parallel-zero r) f parallel-back
+  latitude-back = ap (onSize (latitudeSize r)) (y-on r f) ∙ on-back (height r) (latitudeSize r) (latitude-zero r) f size-comes-back
 
   width-same : widthAt r y ≡ w
   unfolding widthAt
-  width-same = ap (λ (n : ℕ). halfWidth r (parallelAt r n)) y-size ∙ ap (halfWidth r) parallel-back
+  width-same = ap (λ (n : ℕ). halfWidth r (latitudeSize r n)) y-size ∙ ap (halfWidth r) size-comes-back
 
   d-le : natAbs d ≤ N
   d-le = difference-le c l (p .c-le) (p .l-le)

@@ -45,7 +45,7 @@ near-root y g s q m r h k l = (
   below (negℤ y) (negℤ g) s q m r (rw (natAbs-neg y) h) (rw (plus-neg g, minus-neg g, plus-neg y, minus-neg y) l),
 )
 
--- ---- where s is a square, the order is that of ℤ
+-- where s is a square, the order is that of ℤ
 squares : (a b : ℕ) → (a * a < b * b) ↔ (a < b)
 squares a b = (square-lt a b, square-mono-lt)
 

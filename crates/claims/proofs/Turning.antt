@@ -1,6 +1,5 @@
 -- Turning: the turned numbers are answered by the turned answer, refusals included.
-use mathlib.Core.Bool.{Bool, true, false, cond}
-use mathlib.Core.List.{List, [], _∷_}
+use mathlib.Core.List.{List}
 use mathlib.Core.Path.{refl}
 use Prim.Native.Nat.{ℕ}
 use lib.IntN.{ℤ, negℤ, natAbs}
@@ -9,21 +8,21 @@ use Rattle.projection.specs.Table.{rowOf}
 use Rattle.projection.specs.Parallel.{halfWidth}
 use Rattle.projection.specs.Longitude.{differenceOf}
 use Rattle.projection.specs.Forward.{xOf, yOf, placeOf}
-use Rattle.projection.specs.Refusal.{Refusal, refused, unless}
+use Rattle.projection.specs.Refusal.{Refusal, unless}
 use Rattle.projection.specs.Answer.{forwardOrder, forwardOf}
 use Rattle.projection.proofs.Places.{x-turned, y-turned}
+use Rattle.claims.proofs.Refusals.{ordered}
 use Rattle.claims.specs.Demand3.{numbers, Alike, TurnedX, TurnedY}
 
 -- answers in a relation are alike after one and the same order of refusals
 unless-alike : {A : Type 0} (R : A → A → Type 0) (order : List Refusal) (p q : A) → R p q → Alike R (unless order p) (unless order q)
-unfolding unless
-unless-alike R [] p q h = h
-unless-alike R (r ∷ rs) p q h = go (r .applies) (unless-alike R rs p q h)
-  where
-    go : (b : Bool) → Alike R (unless rs p) (unless rs q) →
-        Alike R (cond b (refused (r .number)) (unless rs p)) (cond b (refused (r .number)) (unless rs q))
-    go true t = refl
-    go false t = t
+unless-alike R order p q h =
+    let o = ordered order p in
+    let i = ordered order q in
+    record {
+      refusals = λ n. (λ e. i .refusal n .1 (o .refusal n .0 e), λ e. o .refusal n .1 (i .refusal n .0 e));
+      answers = λ s t e d. rw (o .answer s .0 e .1, i .answer t .0 d .1) h;
+    }
 
 pub forward-x : (kind : ℕ) (c l f : ℤ) → Alike (TurnedX numbers) (forwardOf kind c l f) (forwardOf kind (negℤ c) (negℤ l) f)
 unfolding forwardOf placeOf

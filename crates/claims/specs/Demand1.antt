@@ -4,13 +4,14 @@ use mathlib.Core.Bool.{true, false}
 use mathlib.Core.List.{List, [], _∷_, _++_}
 use mathlib.Core.Logic.{_↔_}
 use mathlib.Core.Path.{_≡_}
-use Prim.Native.Nat.{ℕ}
+use Prim.Native.Nat.{ℕ, _≤_}
+use lib.Dec.{T}
 use lib.IntN.{ℤ, natAbs}
 use Rattle.projection.specs.Table.{rowOf}
 use Rattle.projection.specs.Parallel.{halfWidth}
 use Rattle.projection.specs.Forward.{placeOf}
 use Rattle.projection.specs.Inverse.{positionOf}
-use Rattle.projection.specs.Refusal.{Refusal, Outcome, refused, given}
+use Rattle.projection.specs.Refusal.{Refusal, Outcome, refused, given, isKind}
 use Rattle.projection.specs.Answer.{widthOrder, forwardOrder, inverseOrder, widthOf, forwardOf, inverseOf}
 
 -- no condition of an order holds
@@ -34,6 +35,8 @@ pub record Ordered {A : Type 0} (outcome : Outcome A) (order : List Refusal) (a 
   pub answer : (b : A) → (outcome ≡ given b) ↔ (None order × (b ≡ a))
 
 pub record Demand1 : Type 0 where
+  -- a kind is one of 1..10
+  pub kinds : (kind : ℕ) → T (isKind kind) ↔ ((1 ≤ kind) × (kind ≤ 10))
   pub half-width : (kind : ℕ) (latitude : ℤ) →
       Ordered (widthOf kind latitude) (widthOrder kind latitude) (halfWidth (rowOf kind) (natAbs latitude))
   pub forward : (kind : ℕ) (central longitude latitude : ℤ) →

@@ -40,7 +40,7 @@ pub record Parallel (r : Row) (p : ℕ) : Type 0 where
   pub sum-whole : pos (numerator r (rootAt r p)) ≡ r .a *ℤ pos M +ℤ r .b *ℤ pos (rootAt r p)
   -- demand 2's bound
   pub bound : WithinOne (r .method) r p
-  -- sizes that the bounds of demand 3 rest on
+  -- beside the demand: the sizes of W and KY, by the table's columns
   pub width-small : halfWidth r p < 5 * N
   pub ky-low : N < r .ky
   pub ky-high : r .ky < 5 * N

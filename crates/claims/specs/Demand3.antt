@@ -1,5 +1,6 @@
--- Demand 3, said once for every way of handing numbers in.
-use mathlib.Core.Logic.{_⊎_, _≢_}
+-- Demand 3, said once for every way of handing numbers in. What a session or a piece of bytes may refuse beyond that is
+-- said with those.
+use mathlib.Core.Logic.{_⊎_, _≢_, _↔_}
 use mathlib.Core.Path.{_≡_}
 use Prim.Native.Nat.{ℕ, _≤_, _<_}
 use lib.IntN.{ℤ, pos, negℤ, natAbs, _-ℤ_}
@@ -46,12 +47,10 @@ SameAt c m l = (m ≡ l) ⊎ ((c ≢ pos 0) × (natAbs m ≡ N) × (natAbs l ≡
 abbrev pub Close : ℤ → ℤ → Type 0
 Close a b = natAbs (a -ℤ b) ≤ 2
 
--- two answers are refused by the same number, or are given and stand in R
-abbrev pub Alike : {A : Type 0} → (A → A → Type 0) → Outcome A → Outcome A → Type 0
-Alike R (refused n) (refused m) = m ≡ n
-Alike R (given p) (given q) = R p q
-Alike R (refused n) (given q) = ⊥
-Alike R (given p) (refused m) = ⊥
+-- the one is refused exactly when the other is, by the same number; and what both give stands in R
+pub record Alike {A : Type 0} (R : A → A → Type 0) (first second : Outcome A) : Type 0 where
+  pub refusals : (n : ℕ) → (first ≡ refused n) ↔ (second ≡ refused n)
+  pub answers : (p q : A) → first ≡ given p → second ≡ given q → R p q
 
 module _ (w : Way) where
   -- x turned and y the same

@@ -6,7 +6,7 @@ use lib.IntN.{ℤ, pos}
 use Rattle.projection.specs.Table.{neg, rowOf}
 use Rattle.projection.specs.Parallel.{halfWidth}
 use Rattle.projection.specs.Longitude.{differenceOf}
-use Rattle.projection.specs.Forward.{xOf, yOf}
+use Rattle.projection.specs.Forward.{yOf}
 use Rattle.projection.specs.Refusal.{Outcome, refused, given}
 use Rattle.projection.specs.Answer.{forwardOf}
 
@@ -47,10 +47,11 @@ examples =
     ∷ example 8 (width 8 16200000 ∷ width 8 32400000 ∷ []) (pos 219329974 ∷ pos 125331414 ∷ [])
     ∷ example 9 (width 9 0 ∷ width 9 32400000 ∷ []) (pos 318387849 ∷ pos 0 ∷ [])
     ∷ example 10 (width 10 32400000 ∷ []) (pos 159193925 ∷ [])
-    ∷ example 11 (from170 (neg 61200000) ∷ from170 (neg 3600000) ∷ xOf (halfWidth (rowOf 1) 0) (from170 (neg 3600000)) ∷ [])
-    (pos 7200000 ∷ neg 64800000 ∷ neg 314159265 ∷ [])
+    ∷ example 11 (from170 (neg 61200000) ∷ from170 (neg 3600000) ∷ xy (forwardOf 1 (pos 61200000) (neg 3600000) (pos 0)))
+    (pos 7200000 ∷ neg 64800000 ∷ neg 314159265 ∷ pos 0 ∷ [])
     ∷ []
 
--- every example is as document 01 writes it
-abbrev pub Examples : Type 0
-Examples = map (λ (e : Example). e .defined) examples ≡ map (λ (e : Example). e .written) examples
+-- the examples are P1 to P11, and each is as document 01 writes it
+pub record Examples : Type 0 where
+  pub numbers : map (λ (e : Example). e .number) examples ≡ 1 ∷ 2 ∷ 3 ∷ 4 ∷ 5 ∷ 6 ∷ 7 ∷ 8 ∷ 9 ∷ 10 ∷ 11 ∷ []
+  pub values : map (λ (e : Example). e .defined) examples ≡ map (λ (e : Example). e .written) examples

@@ -1,5 +1,5 @@
 -- A rule of every entry of a table, by one test that is computed over the table.
-use mathlib.Core.Bool.{Bool, true, false}
+use mathlib.Core.Bool.{Bool, true, false, cond}
 use mathlib.Core.List.{List, [], _∷_}
 use Prim.Native.Nat.{ℕ, zero, suc, _≤_, _<_}
 use native.Mathlib.Nat.{le-of-suc-le-suc, not-suc-le-zero}
@@ -7,16 +7,12 @@ use lib.Dec.{T, leb, ltb, leb→le, ltb→lt}
 use lib.ListN.{length, getD}
 
 abbrev both : Bool → Bool → Bool
-both true b = b
-both false b = false
+both a b = cond a b false
 
-left : (a b : Bool) → T (both a b) → T a
-left true b t = tt
-left false b t = t
-
-right : (a b : Bool) → T (both a b) → T b
-right true b t = t
-right false b t = absurd t
+-- both sides of a conjunction that holds
+pub conj : (a b : Bool) → T (cond a b false) → T a × T b
+conj true b t = (tt, t)
+conj false b t = absurd t
 
 -- orders claimed of numbers, as data: one list is the test and what the test shows
 pub data Claim : Type 0 where
@@ -35,8 +31,8 @@ Holds (le a b ∷ cs) = (a ≤ b) × Holds cs
 
 pub holds : (cs : List Claim) → T (tests cs) → Holds cs
 holds [] t = tt
-holds (lt a b ∷ cs) t = (ltb→lt a b (left (ltb a b) (tests cs) t), holds cs (right (ltb a b) (tests cs) t))
-holds (le a b ∷ cs) t = (leb→le a b (left (leb a b) (tests cs) t), holds cs (right (leb a b) (tests cs) t))
+holds (lt a b ∷ cs) t = let s = conj (ltb a b) (tests cs) t in (ltb→lt a b (s .0), holds cs (s .1))
+holds (le a b ∷ cs) t = let s = conj (leb a b) (tests cs) t in (leb→le a b (s .0), holds cs (s .1))
 
 module _ {A : Type 0} (f : A → Bool) where
   abbrev pub every : List A → Bool
@@ -45,5 +41,5 @@ module _ {A : Type 0} (f : A → Bool) where
 
   pub every-at : (d : A) (xs : List A) → T (every xs) → (k : ℕ) → k < length xs → T (f (getD xs k d))
   every-at d [] t k h = absurd (not-suc-le-zero h)
-  every-at d (x ∷ xs) t zero h = left (f x) (every xs) t
-  every-at d (x ∷ xs) t (suc k) h = every-at d xs (right (f x) (every xs) t) k (le-of-suc-le-suc h)
+  every-at d (x ∷ xs) t zero h = conj (f x) (every xs) t .0
+  every-at d (x ∷ xs) t (suc k) h = every-at d xs (conj (f x) (every xs) t .1) k (le-of-suc-le-suc h)

@@ -1,14 +1,14 @@
 -- x and y as functions of a size, the same on both sides of 0.
-use mathlib.Core.Path.{_≡_, ap, sym, _∙_}
+use mathlib.Core.Path.{_≡_, refl, ap, sym, _∙_}
 use Prim.Native.Nat.{ℕ, _*_, _≤_}
 use native.Mathlib.Nat.{mul-le-mul-left}
 use native.Mathlib.Omega.{arith}
-use lib.IntN.{ℤ, negℤ, _-ℤ_, negℤ-+ℤ}
+use lib.IntN.{ℤ, pos, negℤ, _-ℤ_, _*ℤ_, negℤ-+ℤ}
 use Rattle.whole.specs.Nearest.{nearest, Near}
-use Rattle.whole.specs.Signed.{onSize}
+use Rattle.whole.specs.Signed.{onSize, nearestSigned}
 use Rattle.whole.proofs.Rounding.{near}
 use Rattle.whole.proofs.Scales.{nearest-mono}
-use Rattle.whole.proofs.Signs.{on-neg, nearest-scaled}
+use Rattle.whole.proofs.Signs.{on-neg, nearest-left}
 use Rattle.projection.specs.declared.table.Row.{Row}
 use Rattle.projection.specs.Angle.{N}
 use Rattle.projection.specs.Parallel.{height}
@@ -19,11 +19,16 @@ use Rattle.projection.proofs.Scales.{scaled-zero, scaled-le}
 
 pub x-on : (w : ℕ) (d : ℤ) → xOf w d ≡ onSize (λ (n : ℕ). nearest (w * n) N) d
 unfolding xOf
-x-on w d = nearest-scaled w d N
+x-on w d = nearest-left w d N
 
 pub y-on : (r : Row) (latitude : ℤ) → yOf r latitude ≡ onSize (height r) latitude
+unfolding yOf
+y-on r latitude = refl
+
+-- y is nearest to KY times signed latitude over N
+pub y-nearest : (r : Row) (latitude : ℤ) → yOf r latitude ≡ nearestSigned (pos (r .ky) *ℤ latitude) N
 unfolding yOf height
-y-on r latitude = nearest-scaled (r .ky) latitude N
+y-nearest r latitude = sym (nearest-left (r .ky) latitude N)
 
 pub height-zero : (r : Row) → height r 0 ≡ 0
 unfolding height

@@ -1,5 +1,5 @@
 -- What the rows of the table have in common, by one computed test.
-use mathlib.Core.Bool.{Bool, true, false, cond}
+use mathlib.Core.Bool.{Bool}
 use mathlib.Core.Path.{_≡_}
 use mathlib.Core.List.{List, [], _∷_}
 use Prim.Native.Nat.{ℕ, _+_, _-_, _*_, _^_, _≤_, _<_}
@@ -18,7 +18,7 @@ use Rattle.projection.specs.Table.{rows, noRow, rowOf}
 use Rattle.projection.specs.Parallel.{radicand, rootBy, rootAt, numerator}
 use Rattle.projection.specs.Refusal.{isKind}
 use Rattle.projection.specs.Columns.{Columns, idle, rootAtEquator, rootAtPole, most}
-use Rattle.projection.proofs.Every.{Claim, lt, le, tests, Holds, holds, every, every-at}
+use Rattle.projection.proofs.Every.{conj, Claim, lt, le, tests, Holds, holds, every, every-at}
 
 -- the claim `NotBelow`
 abbrev below : ℤ → ℕ → ℤ → ℕ → Claim
@@ -65,10 +65,6 @@ passes r = tests (claims r)
 all-pass : T (every passes rows)
 unfolding passes claims rows rootAtEquator rootAtPole most numerator rootAt radicand rootBy root rootIn
 all-pass = tt
-
-conj : (a b : Bool) → T (cond a b false) → T a × T b
-conj true b t = (tt, t)
-conj false b t = absurd t
 
 -- a kind counts from 1 to the number of rows
 pub kind-range : (kind : ℕ) → T (isKind kind) → (1 ≤ kind) × (kind ≤ length rows)

@@ -9,7 +9,7 @@ use Rattle.whole.specs.Nearest.{nearest}
 use Rattle.whole.specs.Signed.{joinOf, nearestSigned}
 use Rattle.whole.proofs.Rounding.{near, nearest-zero, nearest-by-zero}
 use Rattle.whole.proofs.Scales.{part-le}
-use Rattle.whole.proofs.Signs.{natAbs-join, natAbs-on, nearest-scaled, scaled-nearest}
+use Rattle.whole.proofs.Signs.{natAbs-join, natAbs-on, nearest-left, nearest-right}
 use Rattle.projection.specs.Angle.{N}
 
 -- 0 stays 0
@@ -31,12 +31,12 @@ unscaled-le (suc w) x h =
 -- the size of a number that is scaled with its sign
 pub scaled-size : (s z : Signed) (w : ℕ) → joinOf s ≡ nearestSigned (pos w *ℤ joinOf z) N → s .size ≡ nearest (w * z .size) N
 scaled-size s z w e =
-    sym (natAbs-join s) ∙ ap natAbs (e ∙ nearest-scaled w (joinOf z) N) ∙ natAbs-on (λ (n : ℕ). nearest (w * n) N) (joinOf z)
+    sym (natAbs-join s) ∙ ap natAbs (e ∙ nearest-left w (joinOf z) N) ∙ natAbs-on (λ (n : ℕ). nearest (w * n) N) (joinOf z)
     ∙ ap (λ (n : ℕ). nearest (w * n) N) (natAbs-join z)
 
 pub unscaled-size : (s z : Signed) (w : ℕ) → joinOf s ≡ nearestSigned (joinOf z *ℤ pos N) w → s .size ≡ nearest (z .size * N) w
 unscaled-size s z w e =
-    sym (natAbs-join s) ∙ ap natAbs (e ∙ scaled-nearest (joinOf z) N w) ∙ natAbs-on (λ (n : ℕ). nearest (n * N) w) (joinOf z)
+    sym (natAbs-join s) ∙ ap natAbs (e ∙ nearest-right (joinOf z) N w) ∙ natAbs-on (λ (n : ℕ). nearest (n * N) w) (joinOf z)
     ∙ ap (λ (n : ℕ). nearest (n * N) w) (natAbs-join z)
 
 -- the product stays inside 64 bits

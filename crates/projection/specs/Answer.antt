@@ -1,7 +1,9 @@
--- What is answered to a caller: document 01's order of refusals, or else a half-width, a place or a position.
+-- What each call answers: the first refusal that applies in document 01's order, or else a half-width, a place or a
+-- position.
 use mathlib.Core.List.{List, [], _∷_}
 use Prim.Native.Nat.{ℕ}
 use lib.IntN.{ℤ, natAbs}
+use Rattle.projection.specs.declared.table.Row.{Row}
 use Rattle.projection.specs.declared.parallel.Width.{Width}
 use Rattle.projection.specs.declared.parallel.Width.the-variants.{Units, Refused}
 use Rattle.projection.specs.declared.answer.Answer.{Answer}
@@ -28,8 +30,11 @@ widthOrder kind latitude = badKind kind ∷ badLatitude latitude ∷ []
 abbrev pub forwardOrder : ℕ → ℤ → ℤ → ℤ → List Refusal
 forwardOrder kind central longitude latitude = badKind kind ∷ badCentral central ∷ badLongitude longitude ∷ badLatitude latitude ∷ []
 
+abbrev pub rowOrder : Row → ℤ → ℤ → List Refusal
+rowOrder r x y = badY r y ∷ badX r x y ∷ []
+
 abbrev pub inverseOrder : ℕ → ℤ → ℤ → ℤ → List Refusal
-inverseOrder kind central x y = badKind kind ∷ badCentral central ∷ badY (rowOf kind) y ∷ badX (rowOf kind) x y ∷ []
+inverseOrder kind central x y = badKind kind ∷ badCentral central ∷ rowOrder (rowOf kind) x y
 
 -- the half-width of a kind at a latitude
 unfoldable pub widthOf : ℕ → ℤ → Outcome ℕ
@@ -39,6 +44,10 @@ widthOf kind latitude = unless (widthOrder kind latitude) (halfWidth (rowOf kind
 unfoldable pub forwardOf : ℕ → ℤ → ℤ → ℤ → Outcome (ℤ × ℤ)
 forwardOf kind central longitude latitude =
     unless (forwardOrder kind central longitude latitude) (placeOf (rowOf kind) central longitude latitude)
+
+-- what a row answers to a place
+unfoldable pub onRow : Row → ℤ → ℤ → ℤ → Outcome (ℤ × ℤ)
+onRow r central x y = unless (rowOrder r x y) (positionOf r central x y)
 
 -- a place sent back: longitude and latitude
 unfoldable pub inverseOf : ℕ → ℤ → ℤ → ℤ → Outcome (ℤ × ℤ)

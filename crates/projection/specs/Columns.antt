@@ -1,5 +1,4 @@
--- What the rows of the table have in common, and what only private functions speak of.
-use mathlib.Core.List.{[], _∷_}
+-- What the rows of the table have in common.
 use Prim.Native.Nat.{ℕ, _+_, _*_, _^_, _≤_, _<_, max}
 use lib.IntN.{ℤ, pos, natAbs, _+ℤ_, _*ℤ_}
 use Rattle.whole.specs.Signed.{plus, minus}
@@ -8,8 +7,6 @@ use Rattle.projection.specs.declared.table.Method.{Method}
 use Rattle.projection.specs.declared.table.Method.the-variants.{Unused, Root, Quotient}
 use Rattle.projection.specs.Angle.{N, H, M}
 use Rattle.projection.specs.Parallel.{radicand, rootBy, rootAt, numerator}
-use Rattle.projection.specs.Inverse.{positionOf}
-use Rattle.projection.specs.Refusal.{Outcome, unless, badY, badX}
 
 -- x u + y v, for signed x and y: s and a M + b q are such sums
 unfoldable pub combined : ℤ → ℕ → ℤ → ℕ → ℕ
@@ -44,8 +41,8 @@ idle Unused b = natAbs b
 idle Root b = 0
 idle Quotient b = 0
 
--- b is 0 where q is not used; N < KY < 5 N; sizes that keep every sum and product inside 64 bits; and, at the ends of a
--- meridian, s and a M + b q are not below 0 and W is less than 5 N
+-- b is 0 where q is not used; N < KY < 5 N; sizes that keep every sum and product inside 64 bits; KX |b| < M, so that q's
+-- floor costs less than half a unit; and, at the ends of a meridian, s and a M + b q are not below 0 and W is less than 5 N
 pub record Columns (r : Row) : Type 0 where
   pub b-used : idle (r .method) (r .b) ≤ 0
   pub ky-low : N < r .ky
@@ -64,7 +61,3 @@ pub record Columns (r : Row) : Type 0 where
 pub record Usable (r : Row) (p : ℕ) : Type 0 where
   pub columns : Columns r
   pub latitude : p ≤ H
-
--- what a row answers to a place: 6, 7, or its position
-unfoldable pub onRow : Row → ℤ → ℤ → ℤ → Outcome (ℤ × ℤ)
-onRow r central x y = unless (badY r y ∷ badX r x y ∷ []) (positionOf r central x y)

@@ -10,17 +10,17 @@ use Rattle.projection.specs.Angle.{N}
 use Rattle.projection.specs.Parallel.{halfWidth}
 use Rattle.projection.specs.Longitude.{longitudeOf}
 
--- p: nearest to |y| N / KY
-unfoldable pub parallelAt : Row → ℕ → ℕ
-parallelAt r y = nearest (y * N) (r .ky)
+-- p, the size of the latitude: nearest to |y| N / KY
+unfoldable pub latitudeSize : Row → ℕ → ℕ
+latitudeSize r y = nearest (y * N) (r .ky)
 
 -- the latitude: p with y's sign
 unfoldable pub latitudeAt : Row → ℤ → ℤ
-latitudeAt r y = onSize (parallelAt r) y
+latitudeAt r y = onSize (latitudeSize r) y
 
 -- W of the row found
 unfoldable pub widthAt : Row → ℤ → ℕ
-widthAt r y = halfWidth r (parallelAt r (natAbs y))
+widthAt r y = halfWidth r (latitudeSize r (natAbs y))
 
 -- the difference: if W is 0, it is 0; else it is nearest to x N / W
 unfoldable pub differenceAt : ℕ → ℤ → ℤ

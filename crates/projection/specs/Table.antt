@@ -33,6 +33,6 @@ rows =
 abbrev pub noRow : Row
 noRow = row 0 0 (pos 0) (pos 0) (pos 0) Unused
 
--- the row of a kind, kinds being counted from 1
+-- the row of a kind, kinds being counted from 1; 0, which no call asks for, finds the first
 unfoldable pub rowOf : ℕ → Row
 rowOf kind = getD rows (kind - 1) noRow

@@ -12,6 +12,7 @@ pub enum Answer {
     Refused(u8),
 }
 
+// The answer of two numbers that fit 32 bits.
 pub(crate) fn pair(first: Signed, second: Signed) -> Answer
     requires { ⌜ (first .size < 2 ^ 31) × (second .size < 2 ^ 31) ⌝ }
     ensures { λ r. ⌜ meaning r ≡ given (joinOf first, joinOf second) ⌝ }

@@ -8,7 +8,7 @@ ghost use Rattle.projection.specs.Longitude.{wrap, differenceOf};
 use super::angle::Angle;
 use whole::Signed;
 
-// A longitude less the central meridian.
+// A longitude less the central meridian, brought between -N and N.
 pub(crate) fn difference(central: Signed, longitude: Signed) -> Signed
     requires { ⌜ (central .size ≤ N) × (longitude .size ≤ N) ⌝ }
     ensures { λ r. ⌜ joinOf r ≡ differenceOf (joinOf central) (joinOf longitude) ⌝ }
@@ -20,7 +20,7 @@ pub(crate) fn difference(central: Signed, longitude: Signed) -> Signed
     sum(longitude, turned)
 }
 
-// Two longitudes together.
+// Two longitudes together, brought between -N and N.
 pub(crate) fn sum(first: Signed, second: Signed) -> Signed
     requires { ⌜ (first .size ≤ N) × (second .size ≤ N) ⌝ }
     ensures { λ r. ⌜ joinOf r ≡ wrap (joinOf first +ℤ joinOf second) ⌝ }

@@ -80,7 +80,7 @@ fn radicand(row: Row, p: u32) -> u64
     combined(1, N_SQUARED, row.e, (p as u64) * (p as u64))
 }
 
-// x u + y v, what is taken away in one difference at the end, so that no signed number is worked with.
+// x u + y v: what is added, less what is taken away, so that no signed number is worked with.
 fn combined(x: i32, u: u64, y: i32, v: u64) -> u64
     requires { ⌜ Combines x u y v ⌝ }
     ensures { λ r. ⌜ r ≡ combinedOf x u y v ⌝ }

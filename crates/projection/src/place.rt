@@ -18,7 +18,7 @@ use super::table::is_kind;
 use super::table::row_of;
 use whole::Signed;
 
-// The place of a kind at a position, angles in hundredths of an arcsecond.
+// The place at a position, angles in hundredths of an arcsecond; or the first refusal of 1, 3, 4 and 5.
 pub fn forward(kind: u8, central: i32, longitude: i32, latitude: i32) -> Answer
     ensures { λ r. ⌜ meaning r ≡ forwardOf kind central longitude latitude ⌝ }
 {

@@ -3,8 +3,8 @@ ghost use mathlib.Core.Path.{_≡_};
 ghost use Prim.Native.Nat.{_≤_};
 ghost use Rattle.whole.specs.Signed.{joinOf};
 ghost use Rattle.projection.specs.Angle.{N};
-ghost use Rattle.projection.specs.Columns.{Columns, onRow};
-ghost use Rattle.projection.specs.Answer.{meaning, inverseOf};
+ghost use Rattle.projection.specs.Columns.{Columns};
+ghost use Rattle.projection.specs.Answer.{meaning, onRow, inverseOf};
 use super::angle::Angle;
 use super::answer::Answer;
 use super::answer::pair;
@@ -17,7 +17,7 @@ use super::table::is_kind;
 use super::table::row_of;
 use whole::Signed;
 
-// The position of a kind at a place, in map units.
+// The position at a place, x and y in map units; or the first refusal of 1, 3, 6 and 7.
 pub fn inverse(kind: u8, central: i32, x: i32, y: i32) -> Answer
     ensures { λ r. ⌜ meaning r ≡ inverseOf kind central x y ⌝ }
 {
@@ -36,7 +36,7 @@ pub fn inverse(kind: u8, central: i32, x: i32, y: i32) -> Answer
     )
 }
 
-// The position of a row at a place, where the row has one there.
+// The position of a row at a place, or 6 or 7.
 fn position(row: Row, central: Signed, x: Signed, y: Signed) -> Answer
     requires { ⌜ Columns row × (central .size ≤ N) ⌝ }
     ensures { λ r. ⌜ meaning r ≡ onRow row (joinOf central) (joinOf x) (joinOf y) ⌝ }

@@ -115,6 +115,7 @@ const ROWS: [Row; KINDS] = [
     },
 ];
 
+// Whether a kind has a row.
 pub(crate) fn is_kind(kind: u8) -> bool
     ensures { λ r. ⌜ r ≡ isKindOf kind ⌝ }
 {
@@ -125,6 +126,7 @@ pub(crate) fn is_kind(kind: u8) -> bool
     }
 }
 
+// The row of a kind.
 pub(crate) fn row_of(kind: u8) -> Row
     requires { ⌜ T (isKindOf kind) ⌝ }
     ensures { λ r. ⌜ r ≡ rowOf kind ⌝ }

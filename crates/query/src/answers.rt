@@ -9,7 +9,7 @@ use projection::inverse;
 use whole::Signed;
 
 // Answers a line that has ended.
-pub fn answer(line: Line) {
+pub(crate) fn answer(line: Line) {
     let values = line.values;
     let kind = narrow_kind(values[0]);
     let first = narrow(values[1]);

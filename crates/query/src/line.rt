@@ -23,7 +23,7 @@ pub struct Line {
 }
 
 impl Line {
-    pub fn new() -> Line {
+    pub(crate) fn new() -> Line {
         Line {
             letter: NONE,
             values: [Signed::split(0); MOST],
@@ -36,7 +36,7 @@ impl Line {
     }
 
     // The line with one byte more.
-    pub fn with_byte(mut self, byte: u8) -> Line {
+    pub(crate) fn with_byte(mut self, byte: u8) -> Line {
         if self.letter == NONE {
             self.letter = byte;
             return self;
@@ -59,7 +59,7 @@ impl Line {
     }
 
     // The line with the number that is being read, if there is one, among its values.
-    pub fn with_end(mut self) -> Line {
+    pub(crate) fn with_end(mut self) -> Line {
         if !self.digits {
             self.good = self.good && !self.negative;
             return self;
@@ -81,7 +81,7 @@ impl Line {
     }
 
     // Whether an ended line is a request of this letter with so many numbers.
-    pub fn asks(self, letter: u8, count: usize) -> bool {
+    pub(crate) fn asks(self, letter: u8, count: usize) -> bool {
         self.good && self.letter == letter && self.count == count
     }
 }

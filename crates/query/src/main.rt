@@ -1,6 +1,7 @@
 // Answers requests from standard input on standard output, a line for each: 'w KIND LATITUDE' by the half-width of a
 // parallel, 'f KIND CENTRAL LONGITUDE LATITUDE' by the place's x and y, 'i KIND CENTRAL X Y' by the position's longitude and
-// latitude, or by 'refused' and the number. Angles are in hundredths of an arcsecond; CENTRAL is the central meridian.
+// latitude, or by 'refused' and the number; any other line by 'unreadable'. Angles are in hundredths of an arcsecond;
+// CENTRAL is the central meridian.
 mod answers;
 mod line;
 
@@ -13,11 +14,14 @@ use line::NONE;
 fn main() {
     let mut space = io::large_buffer();
     let mut line = Line::new();
+    // A count that falls, so that the loop ends.
     let mut turns = u64::MAX;
     while 0 < turns {
         let got = libc::read(STDIN_FILENO, &mut space);
         if got < 0 {
             io::write_all(STDERR_FILENO, b"query: standard input cannot be read\n");
+            // What is left may be a part of a request, and is not answered.
+            line = Line::new();
         }
         let n = io::count(got, &space);
         line = answer_all(line, &space[..n]);

@@ -1,4 +1,5 @@
--- The law of `nearest`. Nothing else opens its definition, so that the decision for halves is proved here alone.
+-- The law of `nearest`. Only the code's own proof and the worked examples open the definition besides, so that the
+-- decision for halves is proved here alone.
 use mathlib.Core.Path.{_≡_, refl}
 use mathlib.Core.Bool.{Bool, true, false, cond}
 use Prim.Native.Nat.{ℕ, zero, suc, _+_, _*_, _/_, _%_, _≤_, _<_}

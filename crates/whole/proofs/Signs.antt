@@ -8,7 +8,7 @@ use borrow.Author.Tests.{ltb-true, ltb-false}
 use lib.Dec.{ltb}
 use lib.IntN.{ℤ, pos, negsuc, negℤ, natAbs, subℕ, _+ℤ_, _-ℤ_, _*ℤ_, negℤ-negℤ, negℤ-+ℤ, +ℤ-idl}
 use lib.Signed.{mag}
-use mir.Syntax.{Width}
+use mir.Syntax.{Width, w32, w64}
 use mir.Val.{SFits, hbits, toZ, ofZ}
 use mir.Facts.{toZ-ofZ, toZ-pos}
 use Rattle.whole.specs.Nearest.{nearest}
@@ -151,13 +151,13 @@ on-within f g k o (negsuc n) h =
     rw (on-neg g o (pos (f (suc n))), neg-less m (pos (suc n))) (apart-sizes m (pos (suc n)) k (h .0) (h .1) refl refl)
 
 -- the rounding of a multiple is such a function
-pub nearest-scaled : (k : ℕ) (z : ℤ) (d : ℕ) → nearestSigned (pos k *ℤ z) d ≡ onSize (λ (n : ℕ). nearest (k * n) d) z
-nearest-scaled k (pos n) d = refl
-nearest-scaled k (negsuc n) d = on-neg (λ (m : ℕ). nearest m d) (nearest-zero d) (pos (k * suc n))
+pub nearest-left : (k : ℕ) (z : ℤ) (d : ℕ) → nearestSigned (pos k *ℤ z) d ≡ onSize (λ (n : ℕ). nearest (k * n) d) z
+nearest-left k (pos n) d = refl
+nearest-left k (negsuc n) d = on-neg (λ (m : ℕ). nearest m d) (nearest-zero d) (pos (k * suc n))
 
-pub scaled-nearest : (z : ℤ) (k d : ℕ) → nearestSigned (z *ℤ pos k) d ≡ onSize (λ (n : ℕ). nearest (n * k) d) z
-scaled-nearest (pos n) k d = refl
-scaled-nearest (negsuc n) k d = on-neg (λ (m : ℕ). nearest m d) (nearest-zero d) (pos (suc n * k))
+pub nearest-right : (z : ℤ) (k d : ℕ) → nearestSigned (z *ℤ pos k) d ≡ onSize (λ (n : ℕ). nearest (n * k) d) z
+nearest-right (pos n) k d = refl
+nearest-right (negsuc n) k d = on-neg (λ (m : ℕ). nearest m d) (nearest-zero d) (pos (suc n * k))
 
 -- a number with no negative part is its own size
 pub natAbs-whole : (z : ℤ) → minus z ≡ 0 → pos (natAbs z) ≡ z
@@ -181,3 +181,13 @@ turned w {n} h = rw (toZ-pos w h) (+ℤ-idl (negℤ (pos n)))
 
 pub turned-fits : (w : Width) {n : ℕ} → n < 2 ^ hbits w → SFits w (negℤ (pos n))
 turned-fits w {n} h = fits w (negℤ (pos n)) (rw (natAbs-neg (pos n)) h)
+
+-- a number of less than 32 bits, put together in 64 bits and read in 32
+pub join-wide : (s : Signed) {z : ℤ} → s .size < 2 ^ 31 → z ≡ joinOf s → toZ w64 (ofZ w64 z) ≡ joinOf s
+join-wide s h e = let n = natAbs-join s in ap (λ (x : ℤ). toZ w64 (ofZ w64 x)) e ∙ back w64 (joinOf s) (omega arith)
+
+pub join-fits : (s : Signed) → s .size < 2 ^ 31 → SFits w32 (joinOf s)
+join-fits s h = fits w32 (joinOf s) (rw (natAbs-join s) h)
+
+pub join-back : (s : Signed) {z : ℤ} → s .size < 2 ^ 31 → z ≡ joinOf s → toZ w32 (ofZ w32 (toZ w64 (ofZ w64 z))) ≡ joinOf s
+join-back s h e = ap (λ (x : ℤ). toZ w32 (ofZ w32 x)) (join-wide s h e) ∙ toZ-ofZ (join-fits s h)

@@ -121,7 +121,7 @@ const DOCUMENT: [&str; 22] = [
 ];
 
 /// Lines with something missing, too much or out of place; spaces may be left out or doubled.
-const ODD: [&str; 27] = [
+const ODD: [&str; 31] = [
     "",
     "w",
     "w 1",
@@ -149,6 +149,10 @@ const ODD: [&str; 27] = [
     "i 1 2 3 4 5 6",
     "i1 -2 -3 -4",
     "g 1 2 3 4",
+    "w 1 2\r",
+    "w 00001 -0",
+    "w 1 -170141183460469231731687303715884105728",
+    "f 1 0 999999999999999999999999999999999999999999999999999999999999 0",
 ];
 
 /// A number from -limit to limit.

@@ -48,7 +48,7 @@ fn row(cx: f64, cy: f64, a: i128, b: i128, e: i128) -> Row {
     }
 }
 
-fn straight(row: Row) -> Row {
+fn by_quotient(row: Row) -> Row {
     Row {
         quotient: true,
         ..row
@@ -66,8 +66,8 @@ pub fn row_of(kind: i128) -> Option<Row> {
         4 => row(1.89490, 0.94745, -1, 2, -3),
         5 => row(2.0 / eckert, 4.0 / eckert, 2, 2, -4),
         6 => row(3f64.sqrt() / 2.0, 1.0, 0, 2, -3),
-        7 => straight(row(putnins_3, putnins_3, 0, 2, -4)),
-        8 => straight(row(putnins_3, putnins_3, 0, 2, -2)),
+        7 => by_quotient(row(putnins_3, putnins_3, 0, 2, -4)),
+        8 => by_quotient(row(putnins_3, putnins_3, 0, 2, -2)),
         9 => row(1.01346, 1.01346, 4, -2, 12),
         10 => row(1.01346, 1.01346, 3, -1, 12),
         _ => return None,

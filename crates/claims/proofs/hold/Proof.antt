@@ -1,6 +1,8 @@
 -- `claims::hold` meets its contract: each claim, by its law.
 use mathlib.Core.Path.{refl}
-use Prim.Native.Nat.{ℕ, _*_}
+use Prim.Native.Nat.{ℕ, _*_, _≤_}
+use borrow.Author.Tests.{le-leb}
+use lib.Dec.{T, le→leb}
 use lib.IntN.{pos, natAbs}
 use Rattle.whole.specs.Nearest.{nearest, carry}
 use Rattle.whole.specs.Root.{root, rootIn}
@@ -10,14 +12,14 @@ use Rattle.whole.proofs.Signs.{natAbs-on, on-neg}
 use Rattle.projection.specs.declared.table.Row.{Row}
 use Rattle.projection.specs.Angle.{N, M}
 use Rattle.projection.specs.Table.{rows, rowOf}
-use Rattle.projection.specs.Parallel.{radicand, rootBy, rootAt, numerator, halfWidth}
+use Rattle.projection.specs.Parallel.{radicand, rootBy, rootAt, numerator, halfWidth, height}
 use Rattle.projection.specs.Longitude.{wrap}
 use Rattle.projection.specs.Columns.{combined, Usable}
 use Rattle.projection.specs.Forward.{xOf, yOf, placeOf}
 use Rattle.projection.specs.Refusal.{isKind, unless}
 use Rattle.projection.specs.Inverse.{positionOf}
 use Rattle.projection.specs.Answer.{widthOrder, forwardOrder, inverseOrder, widthOf, forwardOf, inverseOf}
-use Rattle.projection.proofs.Rows.{columns}
+use Rattle.projection.proofs.Rows.{kind-range, columns}
 use Rattle.projection.proofs.Widths.{combined-whole, radicand-whole, numerator-whole, width-small}
 use Rattle.claims.specs.Arithmetic.{Arithmetic}
 use Rattle.claims.specs.Demand1.{Demand1}
@@ -47,10 +49,15 @@ parallel r p u =
       ky-high = u .columns .ky-high;
     }
 
+kind-in : (kind : ℕ) → (1 ≤ kind) × (kind ≤ 10) → T (isKind kind)
+unfolding isKind rows
+kind-in kind h = rw (le-leb 1 kind (h .0)) (le→leb kind 10 (h .1))
+
 refusals : Demand1
-unfolding widthOf forwardOf inverseOf
+unfolding widthOf forwardOf inverseOf rows
 refusals =
     record {
+      kinds = λ kind. (kind-range kind, kind-in kind);
       half-width = λ kind f. ordered (widthOrder kind f) (halfWidth (rowOf kind) (natAbs f));
       forward = λ kind c l f. ordered (forwardOrder kind c l f) (placeOf (rowOf kind) c l f);
       inverse = λ kind c x y. ordered (inverseOrder kind c x y) (positionOf (rowOf kind) c x y);
@@ -73,8 +80,8 @@ demands : Demands
 demands = record { refusals = refusals; half-widths = half-widths; laws-of-numbers = laws-of-numbers }
 
 worked : Examples
-unfolding examples forwardOf unless isKind placeOf xOf yOf wrap rowOf rows halfWidth numerator rootAt radicand rootBy nearest carry root rootIn
-worked = refl
+unfolding examples forwardOf unless isKind placeOf xOf yOf height wrap rowOf rows halfWidth numerator rootAt radicand rootBy nearest carry root rootIn
+worked = record { numbers = refl; values = refl }
 
 arithmetic : Arithmetic
 arithmetic =

@@ -32,6 +32,9 @@ slice-aggregate-write-all c = search needs
 write-all-requires : tie.Need-write-all-requires Inv-loop μ-loop
 write-all-requires c κs = search needs
 
+new-requires-2 : tie.Need-new-requires-2 Inv-loop μ-loop
+new-requires-2 c κs = search needs
+
 slice-aggregate-count : tie.Need-slice-aggregate-count Inv-loop μ-loop
 slice-aggregate-count c = search needs
 
@@ -87,6 +90,7 @@ main-spec =
     read-requires
     slice-aggregate-write-all
     write-all-requires
+    new-requires-2
     slice-aggregate-count
     count-requires
     array-share-prefix-space

@@ -9,7 +9,7 @@ use Rattle.projection.specs.Parallel.{halfWidth}
 use Rattle.projection.specs.Refusal.{given, isKind, badKind, badLatitude}
 use Rattle.projection.proofs.Rows.{columns}
 use Rattle.projection.proofs.Judged.{not-false, number-is, size-is, within}
-use Rattle.projection.proofs.Orders.{Fails, width-1, width-5, width-given}
+use Rattle.projection.proofs.Orders.{Passes, width-1, width-5, width-given}
 use Rattle.projection.proofs.parallel.half_width.Statement.{statement}
 use Rattle.projection.proofs.parallel.half_width.Tie as tie
 
@@ -24,7 +24,7 @@ start2 c = start1 (c .before .before .before)
 kind-test : (c : tie.After-is-kind) → not (c .is-kind .result) ≡ badKind (c .before .args .kind) .applies
 kind-test c = ap not (c .is-kind .ensures)
 
-kind-good : (c : tie.Else1) → Fails (badKind (start1 c .args .kind))
+kind-good : (c : tie.Else1) → Passes (badKind (start1 c .args .kind))
 kind-good c = sym (kind-test (c .before)) ∙ c .if1 .left
 
 latitude-is : (c : tie.After-new) → joinOf (c .new .result .count) ≡ start1 (c .before) .args .latitude
@@ -33,7 +33,7 @@ latitude-is c = number-is (c .new .result .count) (start1 (c .before) .fits .lat
 latitude-test : (c : tie.After-outside) → c .outside .result ≡ badLatitude (start1 (c .before .before) .args .latitude) .applies
 latitude-test c = c .outside .ensures ∙ ap (outside H) (latitude-is (c .before))
 
-latitude-good : (c : tie.Else2) → Fails (badLatitude (start2 c .args .latitude))
+latitude-good : (c : tie.Else2) → Passes (badLatitude (start2 c .args .latitude))
 latitude-good c = sym (latitude-test (c .before)) ∙ c .if2 .left
 
 is-kind-requires : tie.Need-is-kind-requires

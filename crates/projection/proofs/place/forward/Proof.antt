@@ -8,7 +8,7 @@ use Rattle.projection.specs.Angle.{N, H, outside}
 use Rattle.projection.specs.Refusal.{isKind, badKind, badCentral, badLongitude, badLatitude}
 use Rattle.projection.proofs.Rows.{columns}
 use Rattle.projection.proofs.Judged.{not-false, number-is, within}
-use Rattle.projection.proofs.Orders.{Fails, forward-1, forward-3, forward-4, forward-5, forward-given}
+use Rattle.projection.proofs.Orders.{Passes, forward-1, forward-3, forward-4, forward-5, forward-given}
 use Rattle.projection.proofs.place.forward.Statement.{statement}
 use Rattle.projection.proofs.place.forward.Tie as tie
 
@@ -29,7 +29,7 @@ start4 c = start3 (c .before .before .before)
 kind-test : (c : tie.After-is-kind) → not (c .is-kind .result) ≡ badKind (c .before .args .kind) .applies
 kind-test c = ap not (c .is-kind .ensures)
 
-kind-good : (c : tie.Else1) → Fails (badKind (start1 c .args .kind))
+kind-good : (c : tie.Else1) → Passes (badKind (start1 c .args .kind))
 kind-good c = sym (kind-test (c .before)) ∙ c .if1 .left
 
 -- each angle is the number handed in
@@ -53,13 +53,13 @@ longitude-test c = c .outside2 .ensures ∙ ap (outside N) (longitude-is (c .bef
 latitude-test : (c : tie.After-outside3) → c .outside3 .result ≡ badLatitude (start3 (c .before .before) .args .latitude) .applies
 latitude-test c = c .outside3 .ensures ∙ ap (outside H) (latitude-is (c .before))
 
-central-good : (c : tie.Else2) → Fails (badCentral (start2 c .args .central))
+central-good : (c : tie.Else2) → Passes (badCentral (start2 c .args .central))
 central-good c = sym (central-test (c .before)) ∙ c .if2 .left
 
-longitude-good : (c : tie.Else3) → Fails (badLongitude (start3 c .args .longitude))
+longitude-good : (c : tie.Else3) → Passes (badLongitude (start3 c .args .longitude))
 longitude-good c = sym (longitude-test (c .before)) ∙ c .if3 .left
 
-latitude-good : (c : tie.Else4) → Fails (badLatitude (start4 c .args .latitude))
+latitude-good : (c : tie.Else4) → Passes (badLatitude (start4 c .args .latitude))
 latitude-good c = sym (latitude-test (c .before)) ∙ c .if4 .left
 
 is-kind-requires : tie.Need-is-kind-requires

@@ -9,11 +9,12 @@ use Rattle.whole.proofs.Signs.{natAbs-join}
 use Rattle.projection.specs.Angle.{N}
 use Rattle.projection.specs.Parallel.{halfWidth}
 use Rattle.projection.specs.Longitude.{differenceOf}
-use Rattle.projection.specs.Forward.{xOf, yOf, placeOf}
+use Rattle.projection.specs.Forward.{xOf, placeOf}
 use Rattle.projection.specs.Refusal.{given}
 use Rattle.projection.proofs.Widths.{width-small}
 use Rattle.projection.proofs.Longitudes.{difference-le}
 use Rattle.projection.proofs.Scales.{scaled-le, scaled-size}
+use Rattle.projection.proofs.Places.{y-nearest}
 use Rattle.projection.proofs.Judged.{size-is}
 use Rattle.projection.proofs.place.place.Statement.{statement}
 use Rattle.projection.proofs.place.place.Tie as tie
@@ -64,8 +65,11 @@ pair-requires c κs =
     )
 
 returns : tie.Need-returns
-unfolding placeOf yOf
-returns c = c .pair .ensures ∙ ap₂ (λ (x y : ℤ). given (x, y)) (x-is (c .before .before)) (c .before .scaled2 .ensures)
+unfolding placeOf
+returns c =
+    let s = c .before .before .before .before .before .args in
+    let y = c .before .scaled2 .ensures ∙ sym (y-nearest (s .row) (joinOf (s .latitude))) in
+    c .pair .ensures ∙ ap₂ (λ (x y : ℤ). given (x, y)) (x-is (c .before .before)) y
 
 pub place-spec : {M : Type 1} → statement M
 place-spec =

@@ -8,7 +8,7 @@ use Rattle.projection.specs.Angle.{N, outside}
 use Rattle.projection.specs.Refusal.{isKind, badKind, badCentral}
 use Rattle.projection.proofs.Rows.{columns}
 use Rattle.projection.proofs.Judged.{not-false, number-is, within}
-use Rattle.projection.proofs.Orders.{Fails, inverse-1, inverse-3, inverse-row}
+use Rattle.projection.proofs.Orders.{Passes, inverse-1, inverse-3, inverse-row}
 use Rattle.projection.proofs.position.inverse.Statement.{statement}
 use Rattle.projection.proofs.position.inverse.Tie as tie
 
@@ -23,7 +23,7 @@ start2 c = start1 (c .before .before .before)
 kind-test : (c : tie.After-is-kind) → not (c .is-kind .result) ≡ badKind (c .before .args .kind) .applies
 kind-test c = ap not (c .is-kind .ensures)
 
-kind-good : (c : tie.Else1) → Fails (badKind (start1 c .args .kind))
+kind-good : (c : tie.Else1) → Passes (badKind (start1 c .args .kind))
 kind-good c = sym (kind-test (c .before)) ∙ c .if1 .left
 
 central-is : (c : tie.After-new) → joinOf (c .new .result .count) ≡ start1 (c .before) .args .central
@@ -32,7 +32,7 @@ central-is c = number-is (c .new .result .count) (start1 (c .before) .fits .cent
 central-test : (c : tie.After-outside) → c .outside .result ≡ badCentral (start1 (c .before .before) .args .central) .applies
 central-test c = c .outside .ensures ∙ ap (outside N) (central-is (c .before))
 
-central-good : (c : tie.Else2) → Fails (badCentral (start2 c .args .central))
+central-good : (c : tie.Else2) → Passes (badCentral (start2 c .args .central))
 central-good c = sym (central-test (c .before)) ∙ c .if2 .left
 
 x-is : (c : tie.After-split) → joinOf (c .split .result) ≡ start2 (c .before .before) .args .x

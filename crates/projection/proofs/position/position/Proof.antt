@@ -10,15 +10,15 @@ use Rattle.whole.proofs.Signs.{natAbs-join}
 use Rattle.projection.specs.Angle.{N, H}
 use Rattle.projection.specs.Longitude.{wrap}
 use Rattle.projection.specs.Parallel.{halfWidth, height}
-use Rattle.projection.specs.Inverse.{parallelAt, widthAt, differenceAt, positionOf}
+use Rattle.projection.specs.Inverse.{latitudeSize, widthAt, differenceAt, positionOf}
 use Rattle.projection.specs.Refusal.{given, badY, badX}
 use Rattle.projection.specs.Columns.{Usable}
 use Rattle.projection.proofs.Longitudes.{longitude-le}
 use Rattle.projection.proofs.Scales.{unscaled-le, unscaled-size}
 use Rattle.projection.proofs.Places.{height-le}
-use Rattle.projection.proofs.Found.{parallel-le, latitude-is, difference-is}
+use Rattle.projection.proofs.Found.{latitude-le, latitude-is, difference-is}
 use Rattle.projection.proofs.Judged.{size-is}
-use Rattle.projection.proofs.Orders.{Fails, Holds, row-6, row-7, row-given}
+use Rattle.projection.proofs.Orders.{Passes, Applies, row-6, row-7, row-given}
 use Rattle.projection.proofs.position.position.Statement.{statement}
 use Rattle.projection.proofs.position.position.Tie as tie
 
@@ -33,23 +33,23 @@ start2 c = start1 (c .before .before .before .before)
 y-le : (c : tie.Else1) → start1 c .args .y .size ≤ height (start1 c .args .row) H
 y-le c = omega (arith, c .if1 .left, c .before .before .row-height .ensures)
 
-y-good : (c : tie.Else1) → Fails (badY (start1 c .args .row) (joinOf (start1 c .args .y)))
+y-good : (c : tie.Else1) → Passes (badY (start1 c .args .row) (joinOf (start1 c .args .y)))
 y-good c =
     let s = start1 c .args in
     le-ltb (height (s .row) H) (natAbs (joinOf (s .y))) (rw (natAbs-join (s .y)) (y-le c))
 
 -- the parallel found
-parallel-is : (c : tie.After-unscaled) →
-    c .unscaled .result .size ≡ parallelAt (start1 (c .before) .args .row) (start1 (c .before) .args .y .size)
-unfolding parallelAt
-parallel-is c =
+latitude-size-is : (c : tie.After-unscaled) →
+    c .unscaled .result .size ≡ latitudeSize (start1 (c .before) .args .row) (start1 (c .before) .args .y .size)
+unfolding latitudeSize
+latitude-size-is c =
     let s = start1 (c .before) .args in
     unscaled-size (c .unscaled .result) (s .y) (s .row .ky) (c .unscaled .ensures)
 
 usable : (c : tie.After-unscaled) → Usable (start1 (c .before) .args .row) (c .unscaled .result .size)
 usable c =
     let s = start1 (c .before) in
-    record { columns = s .pre .0; latitude = rw (parallel-is c) (parallel-le (s .args .row) (s .pre .0) (s .args .y .size) (y-le (c .before))) }
+    record { columns = s .pre .0; latitude = rw (latitude-size-is c) (latitude-le (s .args .row) (s .pre .0) (s .args .y .size) (y-le (c .before))) }
 
 width-is : (c : tie.After-row-half-width) →
     let s = start1 (c .before .before) .args in
@@ -57,13 +57,13 @@ width-is : (c : tie.After-row-half-width) →
 unfolding widthAt
 width-is c =
     let s = start1 (c .before .before) .args in
-    c .row-half-width .ensures ∙ ap (halfWidth (s .row)) (parallel-is (c .before) ∙ ap (parallelAt (s .row)) (sym (natAbs-join (s .y))))
+    c .row-half-width .ensures ∙ ap (halfWidth (s .row)) (latitude-size-is (c .before) ∙ ap (latitudeSize (s .row)) (sym (natAbs-join (s .y))))
 
 -- the second test passed: x is at most the half-width
 x-le : (c : tie.Else2) → start2 c .args .x .size ≤ c .before .before .row-half-width .result
 x-le c = omega (arith, c .if2 .left)
 
-x-good : (c : tie.Else2) → let s = start2 c .args in Fails (badX (s .row) (joinOf (s .x)) (joinOf (s .y)))
+x-good : (c : tie.Else2) → let s = start2 c .args in Passes (badX (s .row) (joinOf (s .x)) (joinOf (s .y)))
 x-good c =
     let s = start2 c .args in
     le-ltb (widthAt (s .row) (joinOf (s .y))) (natAbs (joinOf (s .x))) (rw (← width-is (c .before .before), natAbs-join (s .x)) (x-le c))
@@ -90,7 +90,7 @@ longitude-is c =
 row-height-requires : tie.Need-row-height-requires
 row-height-requires c κs = search needs
 
-y-bad : (c : tie.Then1) → let s = c .before .before .before .args in Holds (badY (s .row) (joinOf (s .y)))
+y-bad : (c : tie.Then1) → let s = c .before .before .before .args in Applies (badY (s .row) (joinOf (s .y)))
 y-bad c =
     let s = c .before .before .before .args in
     lt-ltb (height (s .row) H) (natAbs (joinOf (s .y))) (rw (natAbs-join (s .y)) (omega (arith, c .if1 .taken, c .before .before .row-height .ensures)))
@@ -110,7 +110,7 @@ row-half-width-requires c κs =
 
 x-bad : (c : tie.Then2) →
     let s = start1 (c .before .before .before .before) .args in
-    Holds (badX (s .row) (joinOf (s .x)) (joinOf (s .y)))
+    Applies (badX (s .row) (joinOf (s .x)) (joinOf (s .y)))
 x-bad c =
     let r = c .before .before in
     let s = start1 (r .before .before) .args in

@@ -5,7 +5,7 @@ use native.Mathlib.Omega.{arith}
 use borrow.Author.Needs.{needs}
 use Rattle.whole.specs.Nearest.{nearest}
 use Rattle.whole.specs.Signed.{withSign, joinOf}
-use Rattle.whole.proofs.Signs.{on-sign, nearest-scaled}
+use Rattle.whole.proofs.Signs.{on-sign, nearest-left}
 use Rattle.projection.specs.Angle.{N}
 use Rattle.projection.proofs.Scales.{scaled-zero, scaled-le, scaled-small}
 use Rattle.projection.proofs.scale.scaled.Statement.{statement}
@@ -36,7 +36,7 @@ returns c =
     let z = s .z in
     ap (withSign (z .negative)) (c .nearest .ensures)
     ∙ sym (on-sign (λ (n : ℕ). nearest (s .w * n) N) (scaled-zero (s .w)) (z .negative) (z .size))
-    ∙ sym (nearest-scaled (s .w) (joinOf z) N)
+    ∙ sym (nearest-left (s .w) (joinOf z) N)
 
 pub scaled-spec : {M : Type 1} → statement M
 scaled-spec = tie.close (tie.spec cast-nearest mul-nearest cast-nearest-2 nearest-requires cast-t8 returns)

@@ -5,7 +5,7 @@ use native.Mathlib.Omega.{arith}
 use borrow.Author.Needs.{needs}
 use Rattle.whole.specs.Nearest.{nearest}
 use Rattle.whole.specs.Signed.{withSign, joinOf}
-use Rattle.whole.proofs.Signs.{on-sign, scaled-nearest}
+use Rattle.whole.proofs.Signs.{on-sign, nearest-right}
 use Rattle.projection.specs.Angle.{N}
 use Rattle.projection.proofs.Scales.{unscaled-zero, unscaled-le}
 use Rattle.projection.proofs.scale.unscaled.Statement.{statement}
@@ -34,7 +34,7 @@ returns c =
     let z = s .z in
     ap (withSign (z .negative)) (c .nearest .ensures)
     ∙ sym (on-sign (λ (n : ℕ). nearest (n * N) (s .w)) (unscaled-zero (s .w)) (z .negative) (z .size))
-    ∙ sym (scaled-nearest (joinOf z) N (s .w))
+    ∙ sym (nearest-right (joinOf z) N (s .w))
 
 pub unscaled-spec : {M : Type 1} → statement M
 unscaled-spec = tie.close (tie.spec cast-nearest cast-nearest-2 mul-nearest nearest-requires cast-t8 returns)

@@ -2,24 +2,20 @@
 use Prim.Native.Nat.{_<_, _^_}
 use native.Mathlib.Omega.{arith}
 use borrow.Author.Needs.{needs}
-use lib.IntN.{ℤ, natAbs}
-use mir.Syntax.{w32, w64}
-use Rattle.whole.specs.Signed.{joinOf}
-use Rattle.whole.proofs.Signs.{natAbs-join, fits, back}
+use Rattle.whole.proofs.Signs.{join-wide, join-fits}
 use Rattle.query.proofs.answers.narrow.Statement.{statement}
 use Rattle.query.proofs.answers.narrow.Tie as tie
 
-abbrev number : tie.After-join → ℤ
-number c = joinOf (c .before .before .before .args .value)
-
-small : (c : tie.After-join) → natAbs (number c) < 2 ^ 31
-small c = omega (arith, natAbs-join (c .before .before .before .args .value))
+small : (c : tie.After-join) → c .before .before .before .args .value .size < 2 ^ 31
+small c = omega arith
 
 join-requires : tie.Need-join-requires
 join-requires c κs = search needs
 
 cast-result : tie.Need-cast-result
-cast-result c = rw (c .join .ensures, back w64 (number c) (omega (arith, small c))) (fits w32 (number c) (small c))
+cast-result c =
+    let value = c .before .before .before .args .value in
+    rw (join-wide value (small c) (c .join .ensures)) (join-fits value (small c))
 
 returns : tie.Need-returns
 returns c = search needs
