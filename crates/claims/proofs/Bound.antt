@@ -3,11 +3,11 @@ use mathlib.Core.Path.{_≡_, refl, sym, ap, _∙_}
 use Prim.Native.Nat.{ℕ, _+_, _*_, _≤_, _<_}
 use native.Mathlib.Nat.{zero-mul, mul-add, mul-comm, mul-assoc, mul-left-comm, mul-le-mul-left}
 use native.Mathlib.Omega.{arith}
-use lib.IntN.{ℤ, pos, negℤ, natAbs, _-ℤ_, _*ℤ_}
+use lib.IntN.{ℤ, pos, natAbs, _-ℤ_, _*ℤ_}
 use Rattle.whole.specs.Root.{IsRoot, root}
 use Rattle.whole.specs.Signed.{plus, minus}
 use Rattle.whole.proofs.Squares.{root-is}
-use Rattle.whole.proofs.Signs.{parts, sum, plus-neg, minus-neg, plus-mul, minus-mul, natAbs-mul}
+use Rattle.whole.proofs.Signs.{parts, less, plus-mul, minus-mul, natAbs-mul}
 use Rattle.projection.specs.declared.table.Row.{Row}
 use Rattle.projection.specs.declared.table.Method.{Method}
 use Rattle.projection.specs.declared.table.Method.the-variants.{Unused, Root, Quotient}
@@ -35,9 +35,7 @@ rounded r p u =
     let c = sym (mul-add x (numerator r q) (minus (r .a) * M + minus (r .b) * q)) ∙ ap (λ (k : ℕ). x * k) e in
     let d1 = regroup x (plus (r .a)) (plus (r .b)) q in
     let d2 = regroup x (minus (r .a)) (minus (r .b)) q in
-    let s = sum (pos (2 * M * halfWidth r p)) (negℤ (r .a *ℤ pos (x * M))) in
-    let n1 = plus-neg (r .a *ℤ pos (x * M)) in
-    let n2 = minus-neg (r .a *ℤ pos (x * M)) in
+    let s = less (pos (2 * M * halfWidth r p)) (r .a *ℤ pos (x * M)) in
     let a1 = plus-mul (r .a) (x * M) in
     let a2 = minus-mul (r .a) (x * M) in
     rw (plus-mul (r .b) x, minus-mul (r .b) x) (omega arith, omega arith)
@@ -59,9 +57,7 @@ by-quotient : (y g : ℤ) (q t : ℕ) → N * q ≤ t → t ≤ N * q + N → na
     natAbs (g *ℤ pos N -ℤ y *ℤ pos t) < 2 * M * N
 by-quotient y g q t h k b l m =
     let z = parts (g *ℤ pos N -ℤ y *ℤ pos t) in
-    let s = sum (g *ℤ pos N) (negℤ (y *ℤ pos t)) in
-    let n1 = plus-neg (y *ℤ pos t) in
-    let n2 = minus-neg (y *ℤ pos t) in
+    let s = less (g *ℤ pos N) (y *ℤ pos t) in
     let g1 = plus-mul g N in
     let g2 = minus-mul g N in
     let y1 = plus-mul y t in

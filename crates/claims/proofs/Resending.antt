@@ -22,8 +22,8 @@ use Rattle.projection.proofs.Rows.{columns}
 use Rattle.projection.proofs.Widths.{width-small}
 use Rattle.projection.proofs.Longitudes.{longitude-le}
 use Rattle.projection.proofs.Scales.{scaled-zero, unscaled-le}
-use Rattle.projection.proofs.Places.{x-on, y-on, height-zero, height-near}
-use Rattle.projection.proofs.Found.{latitude-near, latitude-le, difference-on}
+use Rattle.projection.proofs.Places.{x-on, y-on, height-zero, height-le}
+use Rattle.projection.proofs.Found.{latitude-le, difference-on}
 use Rattle.claims.specs.Demand3.{numbers, Close, Resends}
 use Rattle.claims.proofs.Accepted.{Position, accepts, Place, place}
 use Rattle.claims.proofs.Returning.{not-zero}
@@ -77,12 +77,13 @@ module _ (kind : ℕ) (c x y : ℤ) (p : Place kind c x y) where
   here : Position kind c l f
   here = record { kind-good = p .kind-good; c-le = p .c-le; l-le = longitude-le c d (p .c-le) d-le; f-le = rw latitude-size size-low }
 
+  height-close : (height r (latitudeSize r (natAbs y)) ≤ natAbs y + 2) × (natAbs y ≤ height r (latitudeSize r (natAbs y)) + 2)
+  unfolding latitudeSize height
+  height-close = size-close (r .ky) (natAbs y) (omega (arith, p .y-le, height-le r H (omega arith))) (cols .ky-high)
+
   y-close : Close (yOf r f) y
   unfolding latitudeAt
-  y-close =
-      let q = latitudeSize r (natAbs y) in
-      let b = back-within N (r .ky) (natAbs y) q (height r q) (cols .ky-high) (latitude-near r cols (natAbs y)) (height-near r q) in
-      rw (y-on r f) (omega (arith, on-within (latitudeSize r) (height r) 2 (height-zero r) y b))
+  y-close = rw (y-on r f) (omega (arith, on-within (latitudeSize r) (height r) 2 (height-zero r) y height-close))
 
   x-again : Close (xOf w d) x
   x-again =

@@ -22,8 +22,8 @@ use Rattle.projection.specs.Answer.{forwardOf}
 use Rattle.projection.proofs.Rows.{columns}
 use Rattle.projection.proofs.Longitudes.{difference-le}
 use Rattle.projection.proofs.Scales.{scaled-le, unscaled-zero}
-use Rattle.projection.proofs.Places.{x-on, y-on, height-near, height-mono}
-use Rattle.projection.proofs.Found.{latitude-near, latitude-zero, difference-on}
+use Rattle.projection.proofs.Places.{x-on, y-on, height-mono}
+use Rattle.projection.proofs.Found.{latitude-zero, difference-on}
 use Rattle.claims.specs.Demand3.{numbers, SameAt, Returns}
 use Rattle.claims.proofs.Accepted.{Position, position, Place, admits}
 use Rattle.claims.proofs.Wraps.{Ends, there-and-back}
@@ -60,9 +60,8 @@ module _ (kind : ℕ) (c l f : ℤ) (p : Position kind c l f) where
   y-size = ap natAbs (y-on r f) ∙ natAbs-on (height r) f
 
   size-comes-back : latitudeSize r (height r (natAbs f)) ≡ natAbs f
-  size-comes-back =
-      return N (r .ky) (natAbs f) (height r (natAbs f)) (latitudeSize r (height r (natAbs f))) (omega arith) (omega (arith, cols .ky-low))
-      (height-near r (natAbs f)) (latitude-near r cols (height r (natAbs f)))
+  unfolding latitudeSize height
+  size-comes-back = size-back (r .ky) (natAbs f) (omega (arith, cols .ky-low))
 
   latitude-back : latitudeAt r y ≡ f
   unfolding latitudeAt

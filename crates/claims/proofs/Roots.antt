@@ -10,7 +10,7 @@ use lib.Signed.{_<ℤ_}
 use Rattle.whole.specs.Root.{IsRoot}
 use Rattle.whole.specs.Signed.{plus, minus}
 use Rattle.whole.proofs.Squares.{square-lt, square-mono-lt}
-use Rattle.whole.proofs.Signs.{sum, plus-neg, minus-neg, natAbs-neg}
+use Rattle.whole.proofs.Signs.{less, plus-neg, minus-neg, natAbs-neg}
 use Rattle.claims.specs.ExactRoot.{BelowRoot, NearRoot}
 
 -- g ≤ y q + m, and y q ≤ g + m
@@ -34,10 +34,7 @@ below-by (negsuc u) (negsuc y) g s q m e r h k =
 
 below : (y g : ℤ) (s q m : ℕ) → IsRoot s q → natAbs y < m → AtMost g y q m → BelowRoot (g -ℤ pos (2 * m)) y s
 below y g s q m r h k =
-    let e = sum g (negℤ (pos (2 * m))) in
-    let a = plus-neg (pos (2 * m)) in
-    let b = minus-neg (pos (2 * m)) in
-    below-by (g -ℤ pos (2 * m)) y g s q m (omega arith) r h k
+    below-by (g -ℤ pos (2 * m)) y g s q m (omega (arith, less g (pos (2 * m)))) r h k
 
 pub near-root : (y g : ℤ) (s q m : ℕ) → IsRoot s q → natAbs y < m → AtMost g y q m → AtLeast g y q m → NearRoot y s g (2 * m)
 near-root y g s q m r h k l = (

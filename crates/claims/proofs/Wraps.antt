@@ -5,7 +5,7 @@ use Prim.Native.Nat.{_+_, _≤_, _<_}
 use native.Mathlib.Omega.{arith}
 use lib.IntN.{ℤ, negℤ, natAbs, _+ℤ_, _-ℤ_}
 use Rattle.whole.specs.Signed.{plus, minus}
-use Rattle.whole.proofs.Signs.{Parts, parts, sum, natAbs-neg, plus-neg, minus-neg, ext}
+use Rattle.whole.proofs.Signs.{Parts, parts, sum, less, natAbs-neg, plus-neg, minus-neg, ext}
 use Rattle.projection.specs.Angle.{N}
 use Rattle.projection.specs.Longitude.{wrap}
 use Rattle.projection.proofs.Longitudes.{Wrapped, stay, down, up, wrapped}
@@ -53,9 +53,6 @@ there-and-back a c ha hc =
     let z = a +ℤ c in
     let d = wrap z in
     let y = d -ℤ c in
-    let s = sum d (negℤ c) in
-    let n = plus-neg c in
-    let m = minus-neg c in
     by-cases a c z d y (wrap y)
     (record {
       a-le = ha;
@@ -67,6 +64,6 @@ there-and-back a c ha hc =
       py = parts y;
       pb = parts (wrap y);
       z-is = sum a c;
-      y-is = omega arith;
+      y-is = less d c;
     })
     (wrapped z) (wrapped y)

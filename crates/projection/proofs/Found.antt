@@ -4,7 +4,7 @@ use Prim.Native.Nat.{ℕ, zero, suc, _*_, _≤_}
 use native.Mathlib.Omega.{arith}
 use lib.Dec.{eqb·suc-zero}
 use lib.IntN.{ℤ, pos, negsuc, _*ℤ_}
-use Rattle.whole.specs.Nearest.{nearest, Near}
+use Rattle.whole.specs.Nearest.{nearest}
 use Rattle.whole.specs.Signed.{onSize, nearestSigned}
 use Rattle.whole.proofs.Rounding.{near, nearest-by-zero}
 use Rattle.whole.proofs.Scales.{return-le}
@@ -15,15 +15,13 @@ use Rattle.projection.specs.Parallel.{height}
 use Rattle.projection.specs.Inverse.{latitudeSize, latitudeAt, differenceAt}
 use Rattle.projection.specs.Columns.{Columns}
 use Rattle.projection.proofs.Scales.{unscaled-zero}
-use Rattle.projection.proofs.Places.{height-near}
-
-pub latitude-near : (r : Row) → Columns r → (y : ℕ) → Near (y * N) (r .ky) (latitudeSize r y)
-unfolding latitudeSize
-latitude-near r c y = near (y * N) (r .ky) (omega (arith, c .ky-low))
 
 -- a y up to the pole's lies on a parallel
 pub latitude-le : (r : Row) → Columns r → (y : ℕ) → y ≤ height r H → latitudeSize r y ≤ H
-latitude-le r c y h = return-le N (r .ky) H (height r H) y (latitudeSize r y) (c .ky-low) (height-near r H) h (latitude-near r c y)
+unfolding latitudeSize height
+latitude-le r c y h =
+    return-le N (r .ky) H (height r H) y (latitudeSize r y) (c .ky-low) (near (r .ky * H) N (omega arith)) h
+    (near (y * N) (r .ky) (omega (arith, c .ky-low)))
 
 -- latitude and difference as roundings of the signed number
 pub latitude-is : (r : Row) (y : ℤ) → latitudeAt r y ≡ nearestSigned (y *ℤ pos N) (r .ky)

@@ -4,9 +4,8 @@ use Prim.Native.Nat.{ℕ, _*_, _≤_}
 use native.Mathlib.Nat.{mul-le-mul-left}
 use native.Mathlib.Omega.{arith}
 use lib.IntN.{ℤ, pos, negℤ, _-ℤ_, _*ℤ_, negℤ-+ℤ}
-use Rattle.whole.specs.Nearest.{nearest, Near}
+use Rattle.whole.specs.Nearest.{nearest}
 use Rattle.whole.specs.Signed.{onSize, nearestSigned}
-use Rattle.whole.proofs.Rounding.{near}
 use Rattle.whole.proofs.Scales.{nearest-mono}
 use Rattle.whole.proofs.Signs.{on-neg, nearest-left}
 use Rattle.projection.specs.declared.table.Row.{Row}
@@ -33,10 +32,6 @@ y-nearest r latitude = sym (nearest-left (r .ky) latitude N)
 pub height-zero : (r : Row) → height r 0 ≡ 0
 unfolding height
 height-zero r = scaled-zero (r .ky)
-
-pub height-near : (r : Row) (p : ℕ) → Near (r .ky * p) N (height r p)
-unfolding height
-height-near r p = near (r .ky * p) N (omega arith)
 
 pub height-le : (r : Row) (p : ℕ) → p ≤ N → height r p ≤ r .ky
 unfolding height

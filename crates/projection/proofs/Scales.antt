@@ -1,15 +1,15 @@
 -- The two scales of the map, N and a half-width or KY: sizes that go from one to the other.
-use mathlib.Core.Path.{_≡_, sym, ap, _∙_}
+use mathlib.Core.Path.{_≡_, ap, _∙_}
 use Prim.Native.Nat.{ℕ, zero, suc, _*_, _≤_, _<_}
 use native.Mathlib.Nat.{mul-zero, mul-comm, mul-le-mul, le-of-lt}
 use native.Mathlib.Omega.{arith}
-use lib.IntN.{pos, natAbs, _*ℤ_}
+use lib.IntN.{pos, _*ℤ_}
 use Rattle.whole.specs.declared.Signed.{Signed}
 use Rattle.whole.specs.Nearest.{nearest}
 use Rattle.whole.specs.Signed.{joinOf, nearestSigned}
 use Rattle.whole.proofs.Rounding.{near, nearest-zero, nearest-by-zero}
 use Rattle.whole.proofs.Scales.{part-le}
-use Rattle.whole.proofs.Signs.{natAbs-join, natAbs-on, nearest-left, nearest-right}
+use Rattle.whole.proofs.Signs.{size-on, nearest-left, nearest-right}
 use Rattle.projection.specs.Angle.{N}
 
 -- 0 stays 0
@@ -30,14 +30,10 @@ unscaled-le (suc w) x h =
 
 -- the size of a number that is scaled with its sign
 pub scaled-size : (s z : Signed) (w : ℕ) → joinOf s ≡ nearestSigned (pos w *ℤ joinOf z) N → s .size ≡ nearest (w * z .size) N
-scaled-size s z w e =
-    sym (natAbs-join s) ∙ ap natAbs (e ∙ nearest-left w (joinOf z) N) ∙ natAbs-on (λ (n : ℕ). nearest (w * n) N) (joinOf z)
-    ∙ ap (λ (n : ℕ). nearest (w * n) N) (natAbs-join z)
+scaled-size s z w e = size-on (λ (n : ℕ). nearest (w * n) N) s z (e ∙ nearest-left w (joinOf z) N)
 
 pub unscaled-size : (s z : Signed) (w : ℕ) → joinOf s ≡ nearestSigned (joinOf z *ℤ pos N) w → s .size ≡ nearest (z .size * N) w
-unscaled-size s z w e =
-    sym (natAbs-join s) ∙ ap natAbs (e ∙ nearest-right (joinOf z) N w) ∙ natAbs-on (λ (n : ℕ). nearest (n * N) w) (joinOf z)
-    ∙ ap (λ (n : ℕ). nearest (n * N) w) (natAbs-join z)
+unscaled-size s z w e = size-on (λ (n : ℕ). nearest (n * N) w) s z (e ∙ nearest-right (joinOf z) N w)
 
 -- the product stays inside 64 bits
 pub scaled-small : (w d : ℕ) → w < 5 * N → d ≤ N → w * d ≤ 5 * N * N

@@ -49,7 +49,7 @@ sub-parts a b = go (ltb a b) refl
     go true e = omega (arith, ltb-true a b e)
     go false e = omega (arith, ltb-false a b e)
 
--- the parts of a sum, of a number turned, and of a multiple
+-- the parts of a sum, of a number turned, of a difference, and of a multiple
 pub sum : (x y : ℤ) → plus (x +ℤ y) + (minus x + minus y) ≡ minus (x +ℤ y) + (plus x + plus y)
 sum (pos a) (pos b) = omega arith
 sum (pos a) (negsuc b) = omega (arith, sub-parts a (suc b))
@@ -66,6 +66,9 @@ minus-neg (pos zero) = refl
 minus-neg (pos (suc n)) = refl
 minus-neg (negsuc n) = refl
 
+pub less : (x y : ℤ) → plus (x -ℤ y) + (minus x + plus y) ≡ minus (x -ℤ y) + (plus x + minus y)
+less x y = omega (arith, sum x (negℤ y), plus-neg y, minus-neg y)
+
 -- numbers with the same parts are the same
 pub ext : (x y : ℤ) → plus x + minus y ≡ minus x + plus y → x ≡ y
 ext (pos a) (pos b) h = ap pos (omega arith)
@@ -75,31 +78,20 @@ ext (negsuc a) (negsuc b) h = ap negsuc (omega arith)
 
 -- what is left of a where b is taken away, by sign and size
 pub less-east : (a b : ℕ) → b ≤ a → pos a -ℤ pos b ≡ withSign false (a - b)
-less-east a b h =
-    let s = sum (pos a) (negℤ (pos b)) in
-    let p = plus-neg (pos b) in
-    let m = minus-neg (pos b) in
-    ext (pos a -ℤ pos b) (pos (a - b)) (omega arith)
+less-east a b h = ext (pos a -ℤ pos b) (pos (a - b)) (omega (arith, less (pos a) (pos b)))
 
 pub less-west : (a b : ℕ) → a ≤ b → pos a -ℤ pos b ≡ withSign true (b - a)
 less-west a b h =
-    let s = sum (pos a) (negℤ (pos b)) in
-    let p = plus-neg (pos b) in
-    let m = minus-neg (pos b) in
-    let q = plus-neg (pos (b - a)) in
-    let n = minus-neg (pos (b - a)) in
-    ext (pos a -ℤ pos b) (negℤ (pos (b - a))) (omega arith)
+    let p = plus-neg (pos (b - a)) in
+    let m = minus-neg (pos (b - a)) in
+    ext (pos a -ℤ pos b) (negℤ (pos (b - a))) (omega (arith, less (pos a) (pos b)))
 
 -- a sum is what is added less what is taken away
 pub by-parts : (x y : ℤ) → pos (plus x + plus y) -ℤ pos (minus x + minus y) ≡ x +ℤ y
 by-parts x y =
     let a = plus x + plus y in
     let b = minus x + minus y in
-    let s = sum (pos a) (negℤ (pos b)) in
-    let p = plus-neg (pos b) in
-    let m = minus-neg (pos b) in
-    let t = sum x y in
-    ext (pos a -ℤ pos b) (x +ℤ y) (omega arith)
+    ext (pos a -ℤ pos b) (x +ℤ y) (omega (arith, less (pos a) (pos b), sum x y))
 
 pub plus-mul : (z : ℤ) (k : ℕ) → plus (z *ℤ pos k) ≡ plus z * k
 plus-mul (pos n) k = refl
@@ -127,18 +119,17 @@ pub on-sign : (f : ℕ → ℕ) → f 0 ≡ 0 → (b : Bool) (n : ℕ) → onSiz
 on-sign f h false n = refl
 on-sign f h true n = on-neg f h (pos n)
 
+-- the size of what such a function gives
+pub size-on : (f : ℕ → ℕ) (s z : Signed) → joinOf s ≡ onSize f (joinOf z) → s .size ≡ f (z .size)
+size-on f s z e = sym (natAbs-join s) ∙ ap natAbs e ∙ natAbs-on f (joinOf z) ∙ ap f (natAbs-join z)
+
 -- there and back, exactly or to within k
 pub on-back : (f g : ℕ → ℕ) → g 0 ≡ 0 → (z : ℤ) → g (f (natAbs z)) ≡ natAbs z → onSize g (onSize f z) ≡ z
 on-back f g o (pos n) h = ap pos h
 on-back f g o (negsuc n) h = on-neg g o (pos (f (suc n))) ∙ ap (λ (m : ℕ). negℤ (pos m)) h
 
 apart-sizes : (a b : ℤ) (k : ℕ) → plus a ≤ plus b + k → plus b ≤ plus a + k → minus a ≡ 0 → minus b ≡ 0 → natAbs (a -ℤ b) ≤ k
-apart-sizes a b k h l e d =
-    let s = sum a (negℤ b) in
-    let p = parts (a -ℤ b) in
-    let m = plus-neg b in
-    let n = minus-neg b in
-    omega arith
+apart-sizes a b k h l e d = let p = parts (a -ℤ b) in omega (arith, less a b)
 
 neg-less : (a b : ℤ) → natAbs (negℤ a -ℤ negℤ b) ≡ natAbs (a -ℤ b)
 neg-less a b = ap natAbs (sym (negℤ-+ℤ a (negℤ b))) ∙ natAbs-neg (a -ℤ b)
