@@ -15,7 +15,7 @@ use Rattle.projection.specs.Answer.{forwardOrder, inverseOrder, forwardOf, inve
 use Rattle.projection.proofs.Judged.{not-false}
 use Rattle.claims.proofs.Refusals.{unless-none, unless-given}
 
-kind-false : (b : Bool) → T b → not b ≡ false
+pub kind-false : (b : Bool) → T b → not b ≡ false
 kind-false true t = refl
 kind-false false t = absurd t
 

@@ -7,3 +7,5 @@ pub mod Wraps
 pub mod Returning
 pub mod Resending
 pub mod Sharing
+pub mod Ways
+pub mod Floats

@@ -1,6 +1,7 @@
 -- The first refusal of an order: when it is given, and when there is none.
 use mathlib.Core.Bool.{Bool, true, false, cond}
 use mathlib.Core.List.{List, [], _∷_, _++_}
+use mathlib.Core.Logic.{_↔_}
 use mathlib.Core.Path.{_≡_, refl, ap}
 use Prim.Native.Nat.{ℕ}
 use native.Mathlib.Omega.{arith}
@@ -62,3 +63,7 @@ module _ {A : Type 0} where
         refusal = λ n. (unless-first order a n, first-unless order a n);
         answer = λ b. (unless-given order a b, λ h. rw (h .1) (unless-none order a (h .0)));
       }
+
+  -- one and the same order refuses alike, whatever it is to give
+  pub same-refusals : (order : List Refusal) (a b : A) (n : ℕ) → (unless order a ≡ refused n) ↔ (unless order b ≡ refused n)
+  same-refusals order a b n = (λ e. first-unless order b n (unless-first order a n e), λ e. first-unless order a n (unless-first order b n e))

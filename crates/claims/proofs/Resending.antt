@@ -67,7 +67,7 @@ module _ (kind : ℕ) (c x y : ℤ) (p : Place kind c x y) where
   unfolding widthAt
   width-same = ap (halfWidth r) latitude-size
 
-  width-below : w < 5 * N
+  pub width-below : w < 5 * N
   unfolding widthAt
   width-below = width-small r (latitudeSize r (natAbs y)) (record { columns = cols; latitude = size-low })
 

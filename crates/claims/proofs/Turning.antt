@@ -11,7 +11,7 @@ use Rattle.projection.specs.Forward.{xOf, yOf, placeOf}
 use Rattle.projection.specs.Refusal.{Refusal, unless}
 use Rattle.projection.specs.Answer.{forwardOrder, forwardOf}
 use Rattle.projection.proofs.Places.{x-turned, y-turned}
-use Rattle.claims.proofs.Refusals.{ordered}
+use Rattle.claims.proofs.Refusals.{ordered, same-refusals}
 use Rattle.claims.specs.Demand3.{numbers, Alike, TurnedX, TurnedY}
 
 -- answers in a relation are alike after one and the same order of refusals
@@ -20,7 +20,7 @@ unless-alike R order p q h =
     let o = ordered order p in
     let i = ordered order q in
     record {
-      refusals = λ n. (λ e. i .refusal n .1 (o .refusal n .0 e), λ e. o .refusal n .1 (i .refusal n .0 e));
+      refusals = same-refusals order p q;
       answers = λ s t e d. rw (o .answer s .0 e .1, i .answer t .0 d .1) h;
     }
 

@@ -6,6 +6,7 @@ use mathlib.Core.Logic.{_↔_}
 use mathlib.Core.Path.{_≡_}
 use Prim.Native.Nat.{ℕ, _≤_}
 use lib.Dec.{T}
+use lib.Ieee.{Float}
 use lib.IntN.{ℤ, natAbs}
 use Rattle.projection.specs.Table.{rowOf}
 use Rattle.projection.specs.Parallel.{halfWidth}
@@ -13,6 +14,8 @@ use Rattle.projection.specs.Forward.{placeOf}
 use Rattle.projection.specs.Inverse.{positionOf}
 use Rattle.projection.specs.Refusal.{Refusal, Outcome, refused, given, isKind}
 use Rattle.projection.specs.Answer.{widthOrder, forwardOrder, inverseOrder, widthOf, forwardOf, inverseOf}
+use Rattle.degrees.specs.Reading.{centiseconds, units}
+use Rattle.degrees.specs.Answer.{writtenPlace, writtenPosition, forwardOrder as forwardDegreesOrder, inverseOrder as inverseDegreesOrder, forwardOf as forwardDegrees, inverseOf as inverseDegrees}
 
 -- no condition of an order holds
 abbrev pub None : List Refusal → Type 0
@@ -44,3 +47,10 @@ pub record Demand1 : Type 0 where
       (placeOf (rowOf kind) central longitude latitude)
   pub inverse : (kind : ℕ) (central x y : ℤ) →
       Ordered (inverseOf kind central x y) (inverseOrder kind central x y) (positionOf (rowOf kind) central x y)
+  -- on floats, at the numbers read from them
+  pub forward-degrees : (kind : ℕ) (central longitude latitude : Float) →
+      Ordered (forwardDegrees kind central longitude latitude) (forwardDegreesOrder kind central longitude latitude)
+      (writtenPlace (placeOf (rowOf kind) (centiseconds central) (centiseconds longitude) (centiseconds latitude)))
+  pub inverse-degrees : (kind : ℕ) (central x y : Float) →
+      Ordered (inverseDegrees kind central x y) (inverseDegreesOrder kind central x y)
+      (writtenPosition (positionOf (rowOf kind) (centiseconds central) (units x) (units y)))

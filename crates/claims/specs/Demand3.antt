@@ -2,7 +2,9 @@
 -- said with those.
 use mathlib.Core.Logic.{_⊎_, _≢_, _↔_}
 use mathlib.Core.Path.{_≡_}
+use mathlib.Core.Bool.{true}
 use Prim.Native.Nat.{ℕ, _≤_, _<_}
+use lib.Ieee.{Float, binary64, neg, eq, ofInt}
 use lib.IntN.{ℤ, pos, negℤ, natAbs, _-ℤ_}
 use Rattle.projection.specs.Angle.{N}
 use Rattle.projection.specs.Table.{rowOf}
@@ -10,6 +12,8 @@ use Rattle.projection.specs.Parallel.{halfWidth}
 use Rattle.projection.specs.Inverse.{widthAt, differenceAt}
 use Rattle.projection.specs.Refusal.{Outcome, refused, given}
 use Rattle.projection.specs.Answer.{forwardOf, inverseOf}
+use Rattle.degrees.specs.Reading.{centiseconds, units}
+use Rattle.degrees.specs.Answer.{forwardOf as forwardDegrees, inverseOf as inverseDegrees}
 
 -- what is handed in and answered, the whole numbers that it stands for, when a second angle is the first with its sign
 -- turned, and the two calls
@@ -33,6 +37,23 @@ numbers =
       Turned = λ (z t : ℤ). t ≡ negℤ z;
       forward = forwardOf;
       inverse = inverseOf;
+    }
+
+-- floats, of which each stands for the whole number read from it. Turned, a float is its negative, a zero has either sign,
+-- and a NaN is a NaN
+abbrev pub TurnedFloat : Float → Float → Type 0
+TurnedFloat x t = (t ≡ neg x) ⊎ ((t ≡ x) × (eq x (ofInt binary64 (pos 0)) ≡ true))
+
+abbrev pub floats : Way
+floats =
+    record {
+      Angle = Float;
+      Coordinate = Float;
+      centiseconds = centiseconds;
+      units = units;
+      Turned = TurnedFloat;
+      forward = forwardDegrees;
+      inverse = inverseDegrees;
     }
 
 -- -N and N are one meridian

@@ -1,14 +1,17 @@
 -- The worked examples of document 01 ('Either side of each line'), as one table under one statement.
+use mathlib.Core.Bool.{true, false}
 use mathlib.Core.Path.{_≡_}
 use mathlib.Core.List.{List, [], _∷_, map}
 use Prim.Native.Nat.{ℕ}
-use lib.IntN.{ℤ, pos}
+use lib.Ieee.{fin}
+use lib.IntN.{ℤ, pos, negsuc}
 use Rattle.projection.specs.Table.{neg, rowOf}
 use Rattle.projection.specs.Parallel.{halfWidth}
 use Rattle.projection.specs.Longitude.{differenceOf}
 use Rattle.projection.specs.Forward.{yOf}
 use Rattle.projection.specs.Refusal.{Outcome, refused, given}
 use Rattle.projection.specs.Answer.{forwardOf}
+use Rattle.degrees.specs.Reading.{centiseconds}
 
 -- an example's number, what the definitions give, and what document 01 writes
 pub record Example : Type 0 where
@@ -35,6 +38,7 @@ xy (refused n) = []
 abbrev pub from170 : ℤ → ℤ
 from170 longitude = differenceOf (pos 61200000) longitude
 
+-- P12's 0.0078125 degrees is the float 1 * 2 ^ -7
 unfoldable pub examples : List Example
 examples =
     example 1 (xy (forwardOf 1 (pos 0) (pos 32400000) (pos 16200000))) (pos 157079633 ∷ pos 78539816 ∷ [])
@@ -49,9 +53,10 @@ examples =
     ∷ example 10 (width 10 32400000 ∷ []) (pos 159193925 ∷ [])
     ∷ example 11 (from170 (neg 61200000) ∷ from170 (neg 3600000) ∷ xy (forwardOf 1 (pos 61200000) (neg 3600000) (pos 0)))
     (pos 7200000 ∷ neg 64800000 ∷ neg 314159265 ∷ pos 0 ∷ [])
+    ∷ example 12 (centiseconds (fin false 1 (negsuc 6)) ∷ centiseconds (fin true 1 (negsuc 6)) ∷ []) (pos 2813 ∷ neg 2813 ∷ [])
     ∷ []
 
--- the examples are P1 to P11, and each is as document 01 writes it
+-- the examples are P1 to P12, and each is as document 01 writes it
 pub record Examples : Type 0 where
-  pub numbers : map (λ (e : Example). e .number) examples ≡ 1 ∷ 2 ∷ 3 ∷ 4 ∷ 5 ∷ 6 ∷ 7 ∷ 8 ∷ 9 ∷ 10 ∷ 11 ∷ []
+  pub numbers : map (λ (e : Example). e .number) examples ≡ 1 ∷ 2 ∷ 3 ∷ 4 ∷ 5 ∷ 6 ∷ 7 ∷ 8 ∷ 9 ∷ 10 ∷ 11 ∷ 12 ∷ []
   pub values : map (λ (e : Example). e .defined) examples ≡ map (λ (e : Example). e .written) examples

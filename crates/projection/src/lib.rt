@@ -15,3 +15,4 @@ pub use parallel::Width;
 pub use parallel::half_width;
 pub use place::forward;
 pub use position::inverse;
+pub use table::is_kind;

@@ -116,7 +116,7 @@ const ROWS: [Row; KINDS] = [
 ];
 
 // Whether a kind has a row.
-pub(crate) fn is_kind(kind: u8) -> bool
+pub fn is_kind(kind: u8) -> bool
     ensures { λ r. ⌜ r ≡ isKindOf kind ⌝ }
 {
     if kind == 0 {

@@ -17,9 +17,22 @@ nearest-mono {n} {m} d h k = go (eq-or-lt-of-le k)
     go (inl e) = le-of-eq (ap (λ (x : ℕ). nearest x d) e)
     go (inr l) = let a = near n d h in let b = near m d h in cancel d (omega arith)
 
+-- what is nearest does not pass a whole number that the quotient does not pass
+pub near-le : (n d k j : ℕ) → 0 < d → n ≤ d * k → Near n d j → j ≤ k
+near-le n d k j h l a = cancel d (omega arith)
+
+pub near-ge : (n d k j : ℕ) → 0 < d → d * k ≤ n → Near n d j → k ≤ j
+near-ge n d k j h l a = cancel d (omega arith)
+
 -- a whole quotient is its own nearest
 near-whole : (k d j : ℕ) → 0 < d → Near (k * d) d j → j ≡ k
-near-whole k d j h a = let e = mul-comm k d in le-antisymm (cancel d (omega arith)) (cancel d (omega arith))
+near-whole k d j h a =
+    let e = mul-comm k d in
+    le-antisymm (near-le (k * d) d k j h (le-of-eq e) a) (near-ge (k * d) d k j h (omega arith) a)
+
+-- less than a half away from k, either way: the nearest is k
+pub nearest-strict : (n d k : ℕ) → 0 < d → 2 * n < 2 * (d * k) + d → 2 * (d * k) < 2 * n + d → nearest n d ≡ k
+nearest-strict n d k h l g = let a = near n d h in le-antisymm (cancel d (omega arith)) (cancel d (omega arith))
 
 -- forward and back: a scale w of at least n keeps apart what n parts
 return-wider : (n w d x b : ℕ) → n < w → Near (w * d) n x → Near (x * n) w b → b ≡ d
@@ -46,7 +59,7 @@ back-within n w x d z l f g =
 
 -- a share of at most the whole is nearest to at most the whole
 pub part-le : (n w d x : ℕ) → 0 < n → d ≤ n → Near (w * d) n x → x ≤ w
-part-le n w d x p h f = let m = mul-le-mul-left w h in let e = mul-comm w n in cancel n (omega arith)
+part-le n w d x p h f = near-le (w * d) n w x p (omega (arith, mul-le-mul-left w h, mul-comm w n)) f
 
 -- what lies at most where t does comes back to at most t
 pub return-le : (n w t top y p : ℕ) → n < w → Near (w * t) n top → y ≤ top → Near (y * n) w p → p ≤ t

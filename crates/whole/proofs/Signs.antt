@@ -123,6 +123,11 @@ on-sign f h true n = on-neg f h (pos n)
 pub size-on : (f : ℕ → ℕ) (s z : Signed) → joinOf s ≡ onSize f (joinOf z) → s .size ≡ f (z .size)
 size-on f s z e = sym (natAbs-join s) ∙ ap natAbs e ∙ natAbs-on f (joinOf z) ∙ ap f (natAbs-join z)
 
+-- a size that such a function keeps
+pub on-same : (f : ℕ → ℕ) (z : ℤ) → f (natAbs z) ≡ natAbs z → onSize f z ≡ z
+on-same f (pos n) h = ap pos h
+on-same f (negsuc n) h = ap (λ (m : ℕ). negℤ (pos m)) h
+
 -- there and back, exactly or to within k
 pub on-back : (f g : ℕ → ℕ) → g 0 ≡ 0 → (z : ℤ) → g (f (natAbs z)) ≡ natAbs z → onSize g (onSize f z) ≡ z
 on-back f g o (pos n) h = ap pos h

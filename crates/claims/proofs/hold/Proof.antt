@@ -1,10 +1,16 @@
 -- `claims::hold` meets its contract: each claim, by its law.
+use mathlib.Core.Bool.{true, false}
 use mathlib.Core.Path.{refl}
-use Prim.Native.Nat.{ℕ, _*_, _≤_}
+use Prim.Native.Nat.{ℕ, suc, _*_, _^_, _≤_}
+use native.Mathlib.Omega.{arith}
 use borrow.Author.Tests.{le-leb}
 use lib.Dec.{T, le→leb}
-use lib.IntN.{pos, natAbs}
+use lib.Ieee.{binary64, div, ofInt, round}
+use lib.Ieee.Back.{round-whole}
+use lib.Ieee.Exact.{HasValue}
+use lib.IntN.{ℤ, pos, negsuc, natAbs}
 use Rattle.whole.specs.Nearest.{nearest, carry}
+use Rattle.whole.specs.Signed.{splitOf}
 use Rattle.whole.specs.Root.{root, rootIn}
 use Rattle.whole.proofs.Rounding.{near, nearest-zero, half}
 use Rattle.whole.proofs.Squares.{root-is}
@@ -21,12 +27,17 @@ use Rattle.projection.specs.Inverse.{positionOf}
 use Rattle.projection.specs.Answer.{widthOrder, forwardOrder, inverseOrder, widthOf, forwardOf, inverseOf}
 use Rattle.projection.proofs.Rows.{kind-range, columns}
 use Rattle.projection.proofs.Widths.{combined-whole, radicand-whole, numerator-whole, width-small}
+use Rattle.degrees.specs.Reading.{readOf, centiseconds, units}
+use Rattle.degrees.specs.Writing.{degreesOf, unitsOf}
+use Rattle.degrees.specs.Answer.{writtenPlace, writtenPosition, forwardOrder as forwardDegreesOrder, inverseOrder as inverseDegreesOrder, forwardOf as forwardDegrees, inverseOf as inverseDegrees}
+use Rattle.degrees.proofs.Written.{degrees-stand, units-stand}
 use Rattle.claims.specs.Arithmetic.{Arithmetic}
 use Rattle.claims.specs.Demand1.{Demand1}
 use Rattle.claims.specs.Demand2.{Demand2, Parallel}
-use Rattle.claims.specs.Demand3.{Demand3, numbers}
+use Rattle.claims.specs.Demand3.{Demand3, numbers, floats}
 use Rattle.claims.specs.Demands.{Demands}
 use Rattle.claims.specs.Examples.{Examples, examples}
+use Rattle.claims.specs.Written.{Written, DegreesBack}
 use Rattle.claims.proofs.Bound.{within-one}
 use Rattle.claims.proofs.Roots.{exact}
 use Rattle.claims.proofs.Refusals.{ordered}
@@ -34,6 +45,8 @@ use Rattle.claims.proofs.Turning.{forward-x, forward-y}
 use Rattle.claims.proofs.Returning.{forward-back}
 use Rattle.claims.proofs.Sharing.{sharing}
 use Rattle.claims.proofs.Resending.{back-forward}
+use Rattle.claims.proofs.Ways.{by-numbers}
+use Rattle.claims.proofs.Floats.{floats-by-numbers}
 use Rattle.claims.proofs.hold.Statement.{statement}
 use Rattle.claims.proofs.hold.Tie as tie
 
@@ -54,13 +67,17 @@ unfolding isKind rows
 kind-in kind h = rw (le-leb 1 kind (h .0)) (le→leb kind 10 (h .1))
 
 refusals : Demand1
-unfolding widthOf forwardOf inverseOf rows
+unfolding widthOf forwardOf inverseOf forwardDegrees inverseDegrees rows
 refusals =
     record {
       kinds = λ kind. (kind-range kind, kind-in kind);
       half-width = λ kind f. ordered (widthOrder kind f) (halfWidth (rowOf kind) (natAbs f));
       forward = λ kind c l f. ordered (forwardOrder kind c l f) (placeOf (rowOf kind) c l f);
       inverse = λ kind c x y. ordered (inverseOrder kind c x y) (positionOf (rowOf kind) c x y);
+      forward-degrees = λ kind c l f.
+          ordered (forwardDegreesOrder kind c l f) (writtenPlace (placeOf (rowOf kind) (centiseconds c) (centiseconds l) (centiseconds f)));
+      inverse-degrees = λ kind c x y.
+          ordered (inverseDegreesOrder kind c x y) (writtenPosition (positionOf (rowOf kind) (centiseconds c) (units x) (units y)));
     }
 
 half-widths : Demand2
@@ -77,10 +94,36 @@ laws-of-numbers =
     }
 
 demands : Demands
-demands = record { refusals = refusals; half-widths = half-widths; laws-of-numbers = laws-of-numbers }
+demands =
+    record {
+      refusals = refusals;
+      half-widths = half-widths;
+      laws-of-numbers = laws-of-numbers;
+      laws-of-floats = by-numbers laws-of-numbers floats floats-by-numbers;
+    }
+
+degrees-back : (z : ℤ) → natAbs z ≤ N → DegreesBack z
+degrees-back z h =
+    let s = degrees-stand z (omega arith) in
+    record { is-finite = s .is-finite; within-180 = s .stays 180 h; within-90 = s .stays 90; same = s .reads }
+
+units-exact : (z : ℤ) → natAbs z ≤ 2 ^ 31 → HasValue (unitsOf z) (splitOf z .negative) (natAbs z) 1
+unfolding unitsOf ofInt
+units-exact (pos n) h = round-whole binary64 false n (omega arith)
+units-exact (negsuc n) h = round-whole binary64 true (suc n) (omega arith)
+
+written : Written
+unfolding degreesOf unitsOf ofInt div round
+written =
+    record {
+      degrees = degrees-back;
+      places = λ z h. record { exact = units-exact z h; same = units-stand z (omega (arith, h)) .reads };
+      zero-degrees = refl;
+      zero-units = refl;
+    }
 
 worked : Examples
-unfolding examples forwardOf unless isKind placeOf xOf yOf height wrap rowOf rows halfWidth numerator rootAt radicand rootBy nearest carry root rootIn
+unfolding examples forwardOf unless isKind placeOf xOf yOf height wrap rowOf rows halfWidth numerator rootAt radicand rootBy nearest carry root rootIn readOf
 worked = record { numbers = refl; values = refl }
 
 arithmetic : Arithmetic
@@ -95,7 +138,7 @@ arithmetic =
     }
 
 returns : tie.Need-returns
-returns c = (demands, worked, arithmetic)
+returns c = (demands, worked, arithmetic, written)
 
 pub hold-spec : {M : Type 1} → statement M
 hold-spec = tie.close (tie.spec returns)

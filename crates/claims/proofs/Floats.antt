@@ -1,0 +1,194 @@
+-- Floats answer as the numbers read from them do, and what they answer reads back as itself.
+use mathlib.Core.Bool.{Bool, true, false, not}
+use mathlib.Core.Logic.{_⊎_, inl, inr, _↔_}
+use mathlib.Core.Path.{_≡_, sym, ap, subst, _∙_}
+use Prim.Native.Nat.{ℕ, _*_, _≤_, _<_, _^_}
+use native.Mathlib.Omega.{arith}
+use borrow.Author.Tests.{not-false, ltb-false}
+use lib.IntN.{ℤ, pos, negℤ, natAbs}
+use lib.Ieee.{Float, neg}
+use lib.Ieee.Scale.{finite}
+use Rattle.projection.specs.Angle.{N, H}
+use Rattle.projection.specs.Table.{rowOf}
+use Rattle.projection.specs.Parallel.{height}
+use Rattle.projection.specs.Forward.{placeOf}
+use Rattle.projection.specs.Inverse.{widthAt, positionOf}
+use Rattle.projection.specs.Refusal.{refused, given, isKind, badKind}
+use Rattle.projection.specs.Answer.{forwardOf, inverseOf}
+use Rattle.projection.proofs.Judged as Judged
+use Rattle.projection.proofs.Orders.{Passes}
+use Rattle.projection.proofs.Rows.{columns}
+use Rattle.projection.proofs.Places.{height-le}
+use Rattle.degrees.specs.Reading.{readOf, perDegree, centiseconds, units, outside}
+use Rattle.degrees.specs.Writing.{degreesOf, unitsOf}
+use Rattle.degrees.specs.Answer.{onGiven, writtenPlace, writtenPosition, forwardOrder, inverseOrder, forwardOf as forwardDegrees, inverseOf as inverseDegrees}
+use Rattle.degrees.proofs.Turned.{finite-neg, outside-neg, read-neg, read-zero}
+use Rattle.degrees.proofs.Written.{Stands, degrees-stand, units-stand}
+use Rattle.degrees.proofs.Numbers.{within-180, within-90, forward-numbers, inverse-numbers}
+use Rattle.claims.specs.Demand3.{TurnedFloat, floats}
+use Rattle.claims.proofs.Refusals.{unless-given, same-refusals}
+use Rattle.claims.proofs.Accepted.{kind-false, Position, position, accepts, Place, place, admits}
+use Rattle.claims.proofs.Returning.{forward-back}
+use Rattle.claims.proofs.Resending.{width-below, back-forward}
+use Rattle.claims.proofs.Ways.{Given, Accepts, Sent, SentBack, ByNumbers}
+
+-- a float turned
+turned-read : (k : ℕ) (x t : Float) → TurnedFloat x t → readOf k t ≡ negℤ (readOf k x)
+turned-read k x t (inl e) = ap (readOf k) e ∙ read-neg k x
+turned-read k x t (inr e) = let z = read-zero k x (e .1) in rw (e .0, z)
+
+turned-finite : (x t : Float) → TurnedFloat x t → finite t ≡ finite x
+turned-finite x t (inl e) = ap finite e ∙ finite-neg x
+turned-finite x t (inr e) = ap finite (e .0)
+
+turned-outside : (n : ℕ) (x t : Float) → TurnedFloat x t → outside n t ≡ outside n x
+turned-outside n x t (inl e) = ap (outside n) e ∙ outside-neg n x
+turned-outside n x t (inr e) = ap (outside n) (e .0)
+
+refused-x : (kind : ℕ) (c c' l l' f : Float) → TurnedFloat c c' → TurnedFloat l l' → (n : ℕ) →
+    (forwardDegrees kind c l f ≡ refused n) ↔ (forwardDegrees kind c' l' f ≡ refused n)
+unfolding forwardDegrees
+refused-x kind c c' l l' f h k n =
+    rw (turned-finite c c' h, turned-finite l l' k, turned-outside 180 c c' h, turned-outside 180 l l' k)
+    (same-refusals (forwardOrder kind c l f) (writtenPlace (placeOf (rowOf kind) (centiseconds c) (centiseconds l) (centiseconds f)))
+    (writtenPlace (placeOf (rowOf kind) (centiseconds c') (centiseconds l') (centiseconds f))) n)
+
+refused-y : (kind : ℕ) (c l f f' : Float) → TurnedFloat f f' → (n : ℕ) →
+    (forwardDegrees kind c l f ≡ refused n) ↔ (forwardDegrees kind c l f' ≡ refused n)
+unfolding forwardDegrees
+refused-y kind c l f f' h n =
+    rw (turned-finite f f' h, turned-outside 90 f f' h)
+    (same-refusals (forwardOrder kind c l f) (writtenPlace (placeOf (rowOf kind) (centiseconds c) (centiseconds l) (centiseconds f)))
+    (writtenPlace (placeOf (rowOf kind) (centiseconds c) (centiseconds l) (centiseconds f'))) n)
+
+-- numbers that are answered are small enough to be written
+place-small : (kind : ℕ) (c l f x y : ℤ) → forwardOf kind c l f ≡ given (x, y) → (natAbs x < 5 * N) × (natAbs y < 5 * N)
+place-small kind c l f x y e =
+    let r = forward-back kind c l f x y e in
+    let p = place kind c x y (r .longitude, r .latitude) (r .accepted) .0 in
+    let w = width-below kind c x y p in
+    let k = columns kind (p .kind-good) .ky-high in
+    (omega (arith, p .x-le), omega (arith, p .y-le, height-le (rowOf kind) H (omega arith)))
+
+position-small : (kind : ℕ) (c x y l f : ℤ) → inverseOf kind c x y ≡ given (l, f) → (natAbs l ≤ N) × (natAbs f ≤ H)
+position-small kind c x y l f e =
+    let r = back-forward kind c x y l f e in
+    let p = position kind c l f (r .x', r .y') (r .accepted) .0 in
+    (p .l-le, p .f-le)
+
+-- what floats themselves accept
+abbrev accepted : Accepts floats
+accepted =
+    record {
+      Meridian = λ (x : Float). (finite x ≡ true) × (outside 180 x ≡ false);
+      Latitude = λ (x : Float). (finite x ≡ true) × (outside 90 x ≡ false);
+      Place = λ (x : Float). finite x ≡ true;
+    }
+
+-- the numbers of a place or a position, written
+written-place : (kind : ℕ) (c l f x y : ℤ) → forwardOf kind c l f ≡ given (x, y) → Stands 1 x (unitsOf x) × Stands 1 y (unitsOf y)
+written-place kind c l f x y e =
+    let s = place-small kind c l f x y e in (units-stand x (omega (arith, s .0)), units-stand y (omega (arith, s .1)))
+
+written-meridian : (z : ℤ) → natAbs z ≤ N → accepted .Meridian (degreesOf z) × (centiseconds (degreesOf z) ≡ z)
+written-meridian z h = let s = degrees-stand z (omega arith) in ((s .is-finite, s .stays 180 h), s .reads)
+
+written-latitude : (z : ℤ) → natAbs z ≤ H → accepted .Latitude (degreesOf z) × (centiseconds (degreesOf z) ≡ z)
+written-latitude z h = let s = degrees-stand z (omega arith) in ((s .is-finite, s .stays 90 h), s .reads)
+
+sent : (kind : ℕ) (c l f x y : Float) → forwardDegrees kind c l f ≡ given (x, y) → Sent floats accepted kind c l f x y
+unfolding forwardDegrees
+sent kind c l f x y e =
+    let p = placeOf (rowOf kind) (centiseconds c) (centiseconds l) (centiseconds f) in
+    let g = unless-given (forwardOrder kind c l f) (writtenPlace p) (x, y) e in
+    let n = g .0 .1 in
+    let t = n .1 .1 .1 in
+    let q : Position kind (centiseconds c) (centiseconds l) (centiseconds f) =
+    record {
+      kind-good = Judged.not-false (isKind kind) (g .0 .0);
+      c-le = within-180 c (t .0);
+      l-le = within-180 l (t .1 .0);
+      f-le = within-90 f (t .1 .1 .0);
+    } in
+    let a = accepts kind (centiseconds c) (centiseconds l) (centiseconds f) q in
+    let w = written-place kind (centiseconds c) (centiseconds l) (centiseconds f) (p .0) (p .1) a in
+    subst (λ (v : Float × Float). Sent floats accepted kind c l f (v .0) (v .1)) (sym (g .1))
+    (record {
+      central = (not-false (finite c) (n .0), t .0);
+      longitude = (not-false (finite l) (n .1 .0), t .1 .0);
+      latitude = (not-false (finite f) (n .1 .1 .0), t .1 .1 .0);
+      x-in = w .0 .is-finite;
+      y-in = w .1 .is-finite;
+      on-numbers = rw (w .0 .reads, w .1 .reads) a;
+    })
+
+sent-back : (kind : ℕ) (c x y l f : Float) → inverseDegrees kind c x y ≡ given (l, f) → SentBack floats accepted kind c x y l f
+unfolding inverseDegrees
+sent-back kind c x y l f e =
+    let r = rowOf kind in
+    let p = positionOf r (centiseconds c) (units x) (units y) in
+    let g = unless-given (inverseOrder kind c x y) (writtenPosition p) (l, f) e in
+    let n = g .0 .1 in
+    let t = n .1 .1 .1 in
+    let q : Place kind (centiseconds c) (units x) (units y) =
+    record {
+      kind-good = Judged.not-false (isKind kind) (g .0 .0);
+      c-le = within-180 c (t .0);
+      y-le = ltb-false (height r H) (natAbs (units y)) (t .1 .0);
+      x-le = ltb-false (widthAt r (units y)) (natAbs (units x)) (t .1 .1 .0);
+    } in
+    let a = admits kind (centiseconds c) (units x) (units y) q in
+    let s = position-small kind (centiseconds c) (units x) (units y) (p .0) (p .1) a in
+    let wl = written-meridian (p .0) (s .0) in
+    let wf = written-latitude (p .1) (s .1) in
+    subst (λ (v : Float × Float). SentBack floats accepted kind c x y (v .0) (v .1)) (sym (g .1))
+    (record {
+      central = (not-false (finite c) (n .0), t .0);
+      longitude = wl .0;
+      latitude = wf .0;
+      on-numbers = rw (wl .1, wf .1) a;
+    })
+
+takes : (kind : ℕ) (c l f : Float) (p : ℤ × ℤ) → accepted .Meridian c → accepted .Meridian l → accepted .Latitude f →
+    forwardOf kind (centiseconds c) (centiseconds l) (centiseconds f) ≡ given p → Given units (forwardDegrees kind c l f) p
+takes kind c l f p hc hl hf e =
+    let k = position kind (centiseconds c) (centiseconds l) (centiseconds f) p e .0 .kind-good in
+    let w = written-place kind (centiseconds c) (centiseconds l) (centiseconds f) (p .0) (p .1) e in
+    record {
+      first = unitsOf (p .0);
+      second = unitsOf (p .1);
+      answer =
+          sym (forward-numbers kind c l f (kind-false (isKind kind) k) (record { first = hc .0; second = hl .0; third = hf .0 }) (hc .1) (hl .1) (hf .1))
+          ∙ ap (onGiven writtenPlace) e;
+      first-is = w .0 .reads;
+      second-is = w .1 .reads;
+    }
+
+takes-back : (kind : ℕ) (c x y : Float) (p : ℤ × ℤ) → accepted .Meridian c → accepted .Place x → accepted .Place y →
+    inverseOf kind (centiseconds c) (units x) (units y) ≡ given p → Given centiseconds (inverseDegrees kind c x y) p
+takes-back kind c x y p hc hx hy e =
+    let k = place kind (centiseconds c) (units x) (units y) p e .0 .kind-good in
+    let s = position-small kind (centiseconds c) (units x) (units y) (p .0) (p .1) e in
+    record {
+      first = degreesOf (p .0);
+      second = degreesOf (p .1);
+      answer =
+          sym (inverse-numbers kind c x y (kind-false (isKind kind) k) (record { first = hc .0; second = hx; third = hy }) (hc .1))
+          ∙ ap (onGiven writtenPosition) e;
+      first-is = written-meridian (p .0) (s .0) .1;
+      second-is = written-latitude (p .1) (s .1) .1;
+    }
+
+pub floats-by-numbers : ByNumbers floats
+floats-by-numbers =
+    record {
+      accepts = accepted;
+      turned = turned-read perDegree;
+      refused-x = refused-x;
+      refused-y = refused-y;
+      sent = sent;
+      sent-back = sent-back;
+      takes = takes;
+      takes-back = takes-back;
+      meridian = λ z h. let w = written-meridian z h in (degreesOf z, w .0, w .1);
+    }

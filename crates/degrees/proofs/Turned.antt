@@ -1,0 +1,54 @@
+-- A float with its sign turned is judged as it was, and read as the number turned.
+use mathlib.Core.Bool.{Bool, Bool·beq, true, false, not, _&&_, _||_, true≢false}
+use mathlib.Core.Path.{_≡_, refl, sym, ap, _∙_}
+use Prim.Native.Nat.{ℕ, _*_}
+use native.Mathlib.Nat.{zero-mul, mul-one}
+use borrow.Author.Tests.{eqb-true}
+use lib.Dec.{eqb}
+use lib.IntN.{ℤ, pos, negℤ, negℤ-negℤ}
+use lib.Ieee as Ieee
+use lib.Ieee.{Float, nan, inf, fin, binary64, up, down, neg, ofInt, round}
+use lib.Ieee.Scale.{finite}
+use Rattle.whole.specs.Nearest.{nearest}
+use Rattle.whole.specs.Signed.{withSign}
+use Rattle.whole.proofs.Rounding.{nearest-zero}
+use Rattle.degrees.specs.Reading.{readOf, outside}
+
+pub finite-neg : (x : Float) → finite (neg x) ≡ finite x
+unfolding neg
+finite-neg nan = refl
+finite-neg (inf s) = refl
+finite-neg (fin s m e) = refl
+
+pub outside-neg : (n : ℕ) (x : Float) → outside n (neg x) ≡ outside n x
+unfolding neg outside
+outside-neg n nan = refl
+outside-neg n (inf s) = refl
+outside-neg n (fin s m e) = refl
+
+sign-turned : (s : Bool) (n : ℕ) → withSign (not s) n ≡ negℤ (withSign s n)
+sign-turned true n = sym (negℤ-negℤ (pos n))
+sign-turned false n = refl
+
+pub read-neg : (k : ℕ) (x : Float) → readOf k (neg x) ≡ negℤ (readOf k x)
+unfolding neg readOf
+read-neg k nan = refl
+read-neg k (inf s) = refl
+read-neg k (fin s m e) = sign-turned s (nearest (m * up e * k) (down e))
+
+-- a zero of either sign is read as 0
+either-sign : (s : Bool) → withSign s 0 ≡ pos 0
+either-sign true = refl
+either-sign false = refl
+
+left : (a b : Bool) → (a && b) ≡ true → a ≡ true
+left true b h = refl
+left false b h = h
+
+pub read-zero : (k : ℕ) (x : Float) → Ieee.eq x (ofInt binary64 (pos 0)) ≡ true → readOf k x ≡ pos 0
+unfolding Ieee.eq ofInt round readOf
+read-zero k nan h = refl
+read-zero k (inf s) h = refl
+read-zero k (fin s m e) h =
+    let z : m * up e ≡ 0 = sym (mul-one (m * up e)) ∙ eqb-true (m * up e * 1) (0 * down e) (left (eqb (m * up e * 1) (0 * down e)) (Bool·beq s false || eqb (m * up e * 1) 0) h) ∙ zero-mul (down e) in
+    rw (z, zero-mul k, nearest-zero (down e)) (either-sign s)

@@ -1,0 +1,12 @@
+-- `degrees::reading::outside` meets its contract.
+use Rattle.degrees.proofs.reading.outside.Statement.{statement}
+use Rattle.degrees.proofs.reading.outside.Tie as tie
+
+returns : tie.Need-returns
+returns c = rw (c .if1 .taken)
+
+returns-2 : tie.Need-returns-2
+returns-2 c = rw (c .if1 .left)
+
+pub outside-spec : {M : Type 1} → statement M
+outside-spec = tie.close (tie.spec returns returns-2)

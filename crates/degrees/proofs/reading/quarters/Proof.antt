@@ -1,0 +1,92 @@
+-- `degrees::reading::quarters` meets its contract: the two parts are the product, and nothing needs more than 64 bits.
+use mathlib.Core.Path.{_≡_, sym, ap, _∙_}
+use Prim.Native.Nat.{ℕ, _+_, _*_, _/_, _%_, _^_, _<_}
+use native.Mathlib.Nat.{mod-le, div-le-self}
+use native.Mathlib.Omega.{arith}
+use borrow.Author.Needs.{needs}
+use lib.Pow.{pow-pos}
+use Rattle.degrees.proofs.Digits.{high-is, low-is, product-fits, low-fits, halves-are, left-is, unit-is}
+use Rattle.degrees.proofs.reading.quarters.Statement.{statement}
+use Rattle.degrees.proofs.reading.quarters.Tie as tie
+
+abbrev high : tie.Start → ℕ
+high c = c .args .digits / 4096 * c .args .by + c .args .digits % 4096 * c .args .by / 4096
+
+abbrev unit : tie.Start → ℕ
+unit c = 1 * 2 ^ c .args .drop % 18446744073709551616
+
+high-fits : (c : tie.Start) → high c < 2 ^ 60
+high-fits c =
+    rw (high-is (c .args .digits) (c .args .by))
+    (omega (arith, product-fits (c .args .digits) (c .args .by) (c .pre .0) (c .pre .1 .1)))
+
+halves-fit : (c : tie.Start) → high c / unit c < 2 ^ 60
+halves-fit c = omega (arith, high-fits c, div-le-self (high c) (unit c))
+
+unit-pos : (c : tie.Start) → 0 < unit c
+unit-pos c = rw (unit-is (c .args .drop) (c .pre .1 .0)) (pow-pos (c .args .drop))
+
+mul-low : tie.Need-mul-low
+mul-low c = omega (arith, low-fits (c .args .digits) (c .args .by) (c .pre .1 .1))
+
+mul-high : tie.Need-mul-high
+mul-high c = omega (arith, high-fits c)
+
+add-high : tie.Need-add-high
+add-high c = omega (arith, high-fits c)
+
+shl-unit : tie.Need-shl-unit
+shl-unit c = search needs
+
+div-halves : tie.Need-div-halves
+div-halves c = unit-pos c
+
+rem-if1 : tie.Need-rem-if1
+rem-if1 c = unit-pos c
+
+add-if1 : tie.Need-add-if1
+add-if1 c = omega (arith, high-fits c, mod-le (high c) (unit c))
+
+mul-result : tie.Need-mul-result
+mul-result c = omega (arith, halves-fit (c .before))
+
+mul-result-2 : tie.Need-mul-result-2
+mul-result-2 c = omega (arith, halves-fit (c .before))
+
+add-result : tie.Need-add-result
+add-result c = omega (arith, halves-fit (c .before))
+
+returns : tie.Need-returns
+returns c =
+    let s = c .before in
+    let n = s .args .digits * s .args .by in
+    let u = unit-is (s .args .drop) (s .pre .1 .0) in
+    let l = low-is (s .args .digits) (s .args .by) in
+    rw (left-is n (s .args .drop), ← halves-are n (s .args .drop), ← high-is (s .args .digits) (s .args .by), u)
+    (omega (arith, rw u at (c .if1 .taken)))
+
+returns-2 : tie.Need-returns-2
+returns-2 c =
+    let s = c .before in
+    let n = s .args .digits * s .args .by in
+    let u = unit-is (s .args .drop) (s .pre .1 .0) in
+    let l = low-is (s .args .digits) (s .args .by) in
+    rw (left-is n (s .args .drop), ← halves-are n (s .args .drop), ← high-is (s .args .digits) (s .args .by), u)
+    (omega (arith, rw u at (c .if1 .left)))
+
+pub quarters-spec : {M : Type 1} → statement M
+quarters-spec =
+    tie.close
+    (tie.spec
+    mul-low
+    mul-high
+    add-high
+    shl-unit
+    div-halves
+    rem-if1
+    add-if1
+    mul-result
+    mul-result-2
+    add-result
+    returns
+    returns-2)

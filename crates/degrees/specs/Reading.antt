@@ -1,0 +1,31 @@
+-- How a float is read: the whole number nearest to a multiple of its exact value, which is m * up e / down e with the
+-- sign s.
+use mathlib.Core.Bool.{Bool, true, false}
+use Prim.Native.Nat.{ℕ, _*_}
+use lib.Dec.{ltb}
+use lib.IntN.{ℤ, pos}
+use lib.Ieee.{Float, nan, inf, fin, up, down}
+use Rattle.whole.specs.Nearest.{nearest}
+use Rattle.whole.specs.Signed.{withSign}
+
+-- the whole number nearest to k times a float. A float that is no number is refused before it is read, and counts as 0
+unfoldable pub readOf : ℕ → Float → ℤ
+readOf k nan = pos 0
+readOf k (inf s) = pos 0
+readOf k (fin s m e) = withSign s (nearest (m * up e * k) (down e))
+
+-- degrees as hundredths of an arcsecond, and a coordinate of a place as map units
+abbrev pub perDegree : ℕ
+perDegree = 360000
+
+abbrev pub centiseconds : Float → ℤ
+centiseconds x = readOf perDegree x
+
+abbrev pub units : Float → ℤ
+units x = readOf 1 x
+
+-- whether a float's own value is farther from 0 than n, either way
+unfoldable pub outside : ℕ → Float → Bool
+outside n nan = false
+outside n (inf s) = true
+outside n (fin s m e) = ltb (n * down e) (m * up e)

@@ -1,0 +1,12 @@
+-- How whole numbers are written as floats.
+use lib.IntN.{ℤ, pos}
+use lib.Ieee.{Float, binary64, ofInt, div}
+use Rattle.degrees.specs.Reading.{perDegree}
+
+-- hundredths of an arcsecond as degrees: divided by 360000.0, rounded once
+unfoldable pub degreesOf : ℤ → Float
+degreesOf z = div binary64 (ofInt binary64 z) (ofInt binary64 (pos perDegree))
+
+-- map units as they are
+unfoldable pub unitsOf : ℤ → Float
+unitsOf z = ofInt binary64 z

@@ -1,0 +1,11 @@
+// Forward and inverse on f64: degrees in place of hundredths of an arcsecond, and places as f64 (the "f64 door" of
+// document 01).
+mod answer;
+mod calls;
+mod reading;
+mod writing;
+
+pub use answer::FloatAnswer;
+pub use calls::forward_degrees;
+pub use calls::inverse_degrees;
+pub use writing::Degrees;

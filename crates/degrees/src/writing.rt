@@ -1,0 +1,48 @@
+// Writing whole numbers as floats.
+ghost use mathlib.Core.Path.{_≡_};
+ghost use Rattle.projection.specs.Answer.{meaning as wholeMeaning};
+ghost use Rattle.degrees.specs.Writing.{degreesOf, unitsOf};
+ghost use Rattle.degrees.specs.Answer.{meaning, onGiven, writtenPlace, writtenPosition};
+use super::answer::FloatAnswer;
+use projection::Answer;
+
+// A longitude and a latitude in degrees.
+pub struct Degrees {
+    pub longitude: f64,
+    pub latitude: f64,
+}
+
+impl Degrees {
+    // A longitude and a latitude in hundredths of an arcsecond, as degrees: one division each.
+    pub fn of(longitude: i32, latitude: i32) -> Degrees
+        ensures { λ r. ⌜ (r .longitude ≡ degreesOf longitude) × (r .latitude ≡ degreesOf latitude) ⌝ }
+    {
+        Degrees {
+            longitude: (longitude as f64) / 360000.0,
+            latitude: (latitude as f64) / 360000.0,
+        }
+    }
+}
+
+// A place in map units, as floats.
+pub(crate) fn place(answer: Answer) -> FloatAnswer
+    ensures { λ r. ⌜ meaning r ≡ onGiven writtenPlace (wholeMeaning answer) ⌝ }
+{
+    match answer {
+        Answer::Pair(x, y) => FloatAnswer::Pair(x as f64, y as f64),
+        Answer::Refused(n) => FloatAnswer::Refused(n),
+    }
+}
+
+// A position in hundredths of an arcsecond, in degrees.
+pub(crate) fn position(answer: Answer) -> FloatAnswer
+    ensures { λ r. ⌜ meaning r ≡ onGiven writtenPosition (wholeMeaning answer) ⌝ }
+{
+    match answer {
+        Answer::Pair(longitude, latitude) => {
+            let at = Degrees::of(longitude, latitude);
+            FloatAnswer::Pair(at.longitude, at.latitude)
+        }
+        Answer::Refused(n) => FloatAnswer::Refused(n),
+    }
+}
