@@ -1,22 +1,21 @@
 -- Floats answer as the numbers read from them do, and what they answer reads back as itself.
-use mathlib.Core.Bool.{Bool, true, false, not}
-use mathlib.Core.Logic.{_⊎_, inl, inr, _↔_}
+use mathlib.Core.Bool.{true, false}
+use mathlib.Core.Logic.{inl, inr, _↔_}
 use mathlib.Core.Path.{_≡_, sym, ap, subst, _∙_}
-use Prim.Native.Nat.{ℕ, _*_, _≤_, _<_, _^_}
+use Prim.Native.Nat.{ℕ, _*_, _≤_, _<_}
 use native.Mathlib.Omega.{arith}
 use borrow.Author.Tests.{not-false, ltb-false}
-use lib.IntN.{ℤ, pos, negℤ, natAbs}
-use lib.Ieee.{Float, neg}
+use lib.IntN.{ℤ, negℤ, natAbs}
+use lib.Ieee.{Float}
 use lib.Ieee.Scale.{finite}
 use Rattle.projection.specs.Angle.{N, H}
 use Rattle.projection.specs.Table.{rowOf}
 use Rattle.projection.specs.Parallel.{height}
 use Rattle.projection.specs.Forward.{placeOf}
 use Rattle.projection.specs.Inverse.{widthAt, positionOf}
-use Rattle.projection.specs.Refusal.{refused, given, isKind, badKind}
+use Rattle.projection.specs.Refusal.{refused, given, isKind}
 use Rattle.projection.specs.Answer.{forwardOf, inverseOf}
 use Rattle.projection.proofs.Judged as Judged
-use Rattle.projection.proofs.Orders.{Passes}
 use Rattle.projection.proofs.Rows.{columns}
 use Rattle.projection.proofs.Places.{height-le}
 use Rattle.degrees.specs.Reading.{readOf, perDegree, centiseconds, units, outside}
@@ -158,7 +157,9 @@ takes kind c l f p hc hl hf e =
       first = unitsOf (p .0);
       second = unitsOf (p .1);
       answer =
-          sym (forward-numbers kind c l f (kind-false (isKind kind) k) (record { first = hc .0; second = hl .0; third = hf .0 }) (hc .1) (hl .1) (hf .1))
+          sym
+          (forward-numbers kind c l f (kind-false (isKind kind) k) (record { first = hc .0; second = hl .0; third = hf .0 }) (hc .1)
+          (hl .1) (hf .1))
           ∙ ap (onGiven writtenPlace) e;
       first-is = w .0 .reads;
       second-is = w .1 .reads;

@@ -66,4 +66,5 @@ module _ {A : Type 0} where
 
   -- one and the same order refuses alike, whatever it is to give
   pub same-refusals : (order : List Refusal) (a b : A) (n : ℕ) → (unless order a ≡ refused n) ↔ (unless order b ≡ refused n)
-  same-refusals order a b n = (λ e. first-unless order b n (unless-first order a n e), λ e. first-unless order a n (unless-first order b n e))
+  same-refusals order a b n =
+      (λ e. first-unless order b n (unless-first order a n e), λ e. first-unless order a n (unless-first order b n e))

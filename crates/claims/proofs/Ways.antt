@@ -1,12 +1,12 @@
 -- A way whose answers are those of numbers at the numbers read, and whose answers read back as themselves, has demand 3.
 use mathlib.Core.Logic.{_↔_}
-use mathlib.Core.Path.{_≡_, sym, ap, ap₂, subst, _∙_}
+use mathlib.Core.Path.{_≡_, sym, subst, _∙_}
 use Prim.Native.Nat.{ℕ, _≤_, _<_}
 use lib.IntN.{ℤ, negℤ, natAbs}
 use Rattle.projection.specs.Angle.{N}
 use Rattle.projection.specs.Refusal.{Outcome, refused, given}
 use Rattle.projection.specs.Answer.{forwardOf, inverseOf}
-use Rattle.claims.specs.Demand3.{Way, numbers, SameAt, OneMeridian, Alike, TurnedX, TurnedY, width, Returns, Shares, Resends, Demand3}
+use Rattle.claims.specs.Demand3.{Way, numbers, SameAt, Alike, TurnedX, TurnedY, width, Returns, Shares, Resends, Demand3}
 use Rattle.claims.proofs.Accepted.{position}
 
 -- an outcome gives two things that stand for two numbers

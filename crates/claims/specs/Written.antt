@@ -2,7 +2,7 @@
 -- the same numbers.
 use mathlib.Core.Bool.{true, false}
 use mathlib.Core.Path.{_≡_}
-use Prim.Native.Nat.{ℕ, _≤_, _^_}
+use Prim.Native.Nat.{_≤_, _^_}
 use lib.Ieee.{Float, fin}
 use lib.Ieee.Exact.{HasValue}
 use lib.Ieee.Scale.{finite}

@@ -1,13 +1,13 @@
 -- A product of digits that is worked out in two parts, and what is read from it.
 use mathlib.Core.Path.{_≡_, sym, ap, ap₂, _∙_}
-use Prim.Native.Nat.{ℕ, _+_, _-_, _*_, _/_, _%_, _^_, _≤_, _<_, min}
+use Prim.Native.Nat.{ℕ, _+_, _-_, _*_, _/_, _%_, _^_, _≤_, _<_}
 use native.Mathlib.Nat.{le-trans, le-of-lt, lt-of-le-of-lt, one-mul, mod-lt, mul-comm, mul-right-comm, add-mul, mul-le-mul, div-div-eq-div-mul, div-add-mod', mul-add-div-right, mul-add-mod-self-right, mod-eq-of-lt, mul-pos}
 use native.Mathlib.Omega.{arith}
 use lib.Arith.{mod-mul}
 use lib.Dec.{lit<, lit≤}
 use lib.Pow.{pow-pos, pow-lt, pow-add, pow-mono}
 use Rattle.whole.specs.Nearest.{nearest}
-use Rattle.whole.proofs.Rounding.{near, nearest-scale, nearest-halves}
+use Rattle.whole.proofs.Rounding.{near, nearest-scale}
 use Rattle.whole.proofs.Scales.{nearest-strict, near-ge}
 
 module _ (q by : ℕ) where

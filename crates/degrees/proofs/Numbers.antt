@@ -15,10 +15,9 @@ use Rattle.whole.proofs.Signs.{natAbs-on, on-same, back}
 use Rattle.projection.specs.declared.table.Row.{Row}
 use Rattle.projection.specs.Angle.{N, H, outside}
 use Rattle.projection.specs.Table.{rowOf}
-use Rattle.projection.specs.Parallel.{halfWidth, height}
-use Rattle.projection.specs.Forward.{placeOf}
+use Rattle.projection.specs.Parallel.{height}
 use Rattle.projection.specs.Inverse.{latitudeSize, widthAt, positionOf}
-use Rattle.projection.specs.Refusal.{Refusal, Outcome, refused, given, unless, isKind, badKind}
+use Rattle.projection.specs.Refusal.{Refusal, refused, unless, isKind, badKind}
 use Rattle.projection.specs.Columns.{Columns}
 use Rattle.projection.specs.Answer.{rowOrder, onRow, forwardOf as forwardNumbers, inverseOf as inverseNumbers}
 use Rattle.projection.proofs.Orders.{Passes, forward-given as numbers-given, inverse-row as numbers-row, row-6, row-7}

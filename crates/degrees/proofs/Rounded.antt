@@ -2,9 +2,9 @@
 -- den times that is below a half. One law for every den: 360000 for degrees, 1 for map units.
 use mathlib.Core.Bool.{Bool, true, false}
 use mathlib.Core.Logic.{_⊎_, inl, inr}
-use mathlib.Core.Path.{_≡_, refl, sym, ap, subst, _∙_}
-use Prim.Native.Nat.{ℕ, suc, _+_, _-_, _*_, _/_, _%_, _^_, _≤_, _<_, compare}
-use native.Mathlib.Nat.{le-trans, le-of-eq, le-of-lt, lt-of-le-of-lt, lt-of-not-le, not-le-of-lt, mul-one, suc-mul, mul-comm, mul-assoc, mul-left-comm, mul-right-comm, mul-pos, mul-le-mul, mul-le-mul-left, mul-le-mul-right, mul-lt-mul-of-pos-right, lt-of-mul-lt-mul-left, le-of-mul-le-mul-right, le-mul-of-pos-right, mod-lt, mod-one, div-one, div-add-mod', le-div-iff-mul-le, eq-zero-or-pos, sub-add-cancel}
+use mathlib.Core.Path.{_≡_, refl, sym, ap, _∙_}
+use Prim.Native.Nat.{ℕ, _+_, _-_, _*_, _/_, _%_, _^_, _≤_, _<_, compare}
+use native.Mathlib.Nat.{le-trans, le-of-eq, le-of-lt, lt-of-le-of-lt, lt-of-not-le, mul-one, suc-mul, mul-comm, mul-assoc, mul-left-comm, mul-right-comm, mul-pos, mul-le-mul-left, mul-le-mul-right, mul-lt-mul-of-pos-right, lt-of-mul-lt-mul-left, le-of-mul-le-mul-right, le-mul-of-pos-right, mod-lt, mod-one, div-one, div-add-mod', le-div-iff-mul-le, eq-zero-or-pos, sub-add-cancel}
 use native.Mathlib.Omega.{arith}
 use borrow.Author.Tests.{le-ltb}
 use lib.Dec.{lit<}
@@ -35,7 +35,8 @@ off a b h =
     (omega arith, omega arith)
 
 -- the unit of the last place, times den, is below a half: in units of 1 / D it is below D / 2
-unit-at : (D n den z : ℕ) → 0 < den → 2 * den < D → n < 2 ^ 51 → ((j : ℕ) → j < z → 2 ^ j ≤ n * D / den) → 2 * (den * 2 ^ (z - 53)) < D
+unit-at : (D n den z : ℕ) → 0 < den → 2 * den < D → n < 2 ^ 51 → ((j : ℕ) → j < z → 2 ^ j ≤ n * D / den) →
+    2 * (den * 2 ^ (z - 53)) < D
 unit-at D n den z h d l reaches = go (eq-zero-or-pos (z - 53))
   where
     go : (z - 53 ≡ 0) ⊎ (0 < z - 53) → 2 * (den * 2 ^ (z - 53)) < D
@@ -43,14 +44,16 @@ unit-at D n den z h d l reaches = go (eq-zero-or-pos (z - 53))
     go (inr p) =
         let k = z - 53 in
         let a : 2 ^ (52 + k) * den ≤ n * D = le-div-iff-mul-le h .0 (reaches (52 + k) (omega arith)) in
-        let e : 2 ^ 51 * (2 * (den * 2 ^ k)) ≡ 2 ^ (52 + k) * den = rw (pow-add 2 52 k, mul-assoc (2 ^ 52) (2 ^ k) den, mul-comm (2 ^ k) den) (omega arith) in
+        let e : 2 ^ 51 * (2 * (den * 2 ^ k)) ≡ 2 ^ (52 + k) * den =
+        rw (pow-add 2 52 k, mul-assoc (2 ^ 52) (2 ^ k) den, mul-comm (2 ^ k) den) (omega arith) in
         lt-of-mul-lt-mul-left (2 ^ 51) (lt-of-le-of-lt (le-of-eq e) (lt-of-le-of-lt a (mul-lt-mul-of-pos-right l (omega arith))))
 
 unit : (D n den : ℕ) → 0 < den → 2 * den < D → n < 2 ^ 51 → 2 * (den * 2 ^ (Ieee.size (n * D / den) - 53)) < D
 unit D n den h d l = unit-at D n den (Ieee.size (n * D / den)) h d l (size-reaches (n * D / den))
 
 -- so the nearest whole number is n
-comes-back : (D n den q k : ℕ) → 2 * (den * 2 ^ k) < D → (q * (den * 2 ^ k) ≤ n * D + den * 2 ^ k) × (n * D < q * (den * 2 ^ k) + den * 2 ^ k) →
+comes-back : (D n den q k : ℕ) → 2 * (den * 2 ^ k) < D →
+    (q * (den * 2 ^ k) ≤ n * D + den * 2 ^ k) × (n * D < q * (den * 2 ^ k) + den * 2 ^ k) →
     nearest (q * 2 ^ k * den) D ≡ n
 comes-back D n den q k u o =
     let x : q * 2 ^ k * den ≡ q * (den * 2 ^ k) = mul-assoc q (2 ^ k) den ∙ ap (λ (t : ℕ). q * t) (mul-comm (2 ^ k) den) in
@@ -64,10 +67,12 @@ closest-one a = ap (λ (x : ℕ). Ieee.nearest (a / 1) (compare (x * 2) 1)) (mod
 limited : (d k n den L : ℕ) → k ≤ d → 0 < den → n ≤ L * den → closest (n * 2 ^ d) (den * 2 ^ k) * 2 ^ k ≤ L * 2 ^ d
 limited d k n den L i h l =
     let p : 2 ^ (d - k) * 2 ^ k ≡ 2 ^ d = sym (pow-add 2 (d - k) k) ∙ ap (λ (x : ℕ). 2 ^ x) (sub-add-cancel i) in
-    let r : L * 2 ^ (d - k) * (den * 2 ^ k) ≡ L * den * 2 ^ d = simp (mul-assoc, mul-comm, mul-left-comm) (simp (mul-assoc, mul-comm) at (ap (λ (x : ℕ). L * den * x) p)) in
+    let r : L * 2 ^ (d - k) * (den * 2 ^ k) ≡ L * den * 2 ^ d =
+    simp (mul-assoc, mul-comm, mul-left-comm) (simp (mul-assoc, mul-comm) at (ap (λ (x : ℕ). L * den * x) p)) in
     let m : n * 2 ^ d * 1 ≤ L * 2 ^ (d - k) * (den * 2 ^ k) = rw (mul-one (n * 2 ^ d), r) (mul-le-mul-right (2 ^ d) l) in
     let c = closest-mono (n * 2 ^ d) (den * 2 ^ k) (L * 2 ^ (d - k)) 1 (mul-pos h (pow-pos k)) (lit< tt) m in
-    le-trans (mul-le-mul-right (2 ^ k) (rw (closest-one (L * 2 ^ (d - k))) at c)) (le-of-eq (mul-assoc L (2 ^ (d - k)) (2 ^ k) ∙ ap (λ (x : ℕ). L * x) p))
+    le-trans (mul-le-mul-right (2 ^ k) (rw (closest-one (L * 2 ^ (d - k))) at c))
+    (le-of-eq (mul-assoc L (2 ^ (d - k)) (2 ^ k) ∙ ap (λ (x : ℕ). L * x) p))
 
 exponent : (d k den : ℕ) → 0 < den → 2 * (den * 2 ^ k) < 2 ^ d → k ≤ d
 exponent d k den h l =
@@ -109,6 +114,8 @@ rounded-back s n den h d l =
     let v : HasValue x s (q * 2 ^ k) D = rw (round-is binary64 s n den) (units-val binary64 s q k under) in
     record {
       is-finite = has-finite x s (q * 2 ^ k) D v;
-      reads = read-of den x s (q * 2 ^ k) D (pow-pos 1074) v ∙ ap (withSign s) (comes-back D n den q k u (off (n * D) (den * 2 ^ k) (mul-pos h (pow-pos k))));
+      reads =
+          read-of den x s (q * 2 ^ k) D (pow-pos 1074) v
+          ∙ ap (withSign s) (comes-back D n den q k u (off (n * D) (den * 2 ^ k) (mul-pos h (pow-pos k))));
       stays = λ L m. within L x s (q * 2 ^ k) D (pow-pos 1074) v (limited 1074 k n den L i h m);
     }

@@ -1,11 +1,11 @@
 -- A float with its sign turned is judged as it was, and read as the number turned.
-use mathlib.Core.Bool.{Bool, Bool·beq, true, false, not, _&&_, _||_, true≢false}
-use mathlib.Core.Path.{_≡_, refl, sym, ap, _∙_}
+use mathlib.Core.Bool.{Bool, Bool·beq, true, false, not, _&&_, _||_}
+use mathlib.Core.Path.{_≡_, refl, sym, _∙_}
 use Prim.Native.Nat.{ℕ, _*_}
 use native.Mathlib.Nat.{zero-mul, mul-one}
 use borrow.Author.Tests.{eqb-true}
 use lib.Dec.{eqb}
-use lib.IntN.{ℤ, pos, negℤ, negℤ-negℤ}
+use lib.IntN.{pos, negℤ, negℤ-negℤ}
 use lib.Ieee as Ieee
 use lib.Ieee.{Float, nan, inf, fin, binary64, up, down, neg, ofInt, round}
 use lib.Ieee.Scale.{finite}
@@ -45,10 +45,12 @@ left : (a b : Bool) → (a && b) ≡ true → a ≡ true
 left true b h = refl
 left false b h = h
 
-pub read-zero : (k : ℕ) (x : Float) → Ieee.eq x (ofInt binary64 (pos 0)) ≡ true → readOf k x ≡ pos 0
+pub read-zero : (j : ℕ) (x : Float) → Ieee.eq x (ofInt binary64 (pos 0)) ≡ true → readOf j x ≡ pos 0
 unfolding Ieee.eq ofInt round readOf
-read-zero k nan h = refl
-read-zero k (inf s) h = refl
-read-zero k (fin s m e) h =
-    let z : m * up e ≡ 0 = sym (mul-one (m * up e)) ∙ eqb-true (m * up e * 1) (0 * down e) (left (eqb (m * up e * 1) (0 * down e)) (Bool·beq s false || eqb (m * up e * 1) 0) h) ∙ zero-mul (down e) in
-    rw (z, zero-mul k, nearest-zero (down e)) (either-sign s)
+read-zero j nan h = refl
+read-zero j (inf s) h = refl
+read-zero j (fin s m e) h =
+    let n = m * up e * 1 in
+    let k = eqb-true n (0 * down e) (left (eqb n (0 * down e)) (Bool·beq s false || eqb n 0) h) in
+    let z : m * up e ≡ 0 = sym (mul-one (m * up e)) ∙ k ∙ zero-mul (down e) in
+    rw (z, zero-mul j, nearest-zero (down e)) (either-sign s)

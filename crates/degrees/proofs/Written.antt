@@ -1,8 +1,8 @@
 -- What is written is read back as it was.
 use mathlib.Core.Bool.{Bool, true, false}
-use mathlib.Core.Path.{_≡_, refl, sym, ap, subst, _∙_}
+use mathlib.Core.Path.{_≡_, refl, ap, _∙_}
 use Prim.Native.Nat.{ℕ, suc, _*_, _^_, _≤_, _<_}
-use native.Mathlib.Nat.{mul-assoc, mul-one, mul-right-comm, mul-pos}
+use native.Mathlib.Nat.{mul-assoc, mul-right-comm, mul-pos}
 use native.Mathlib.Omega.{arith}
 use lib.Dec.{lit<}
 use lib.IntN.{ℤ, pos, negsuc, natAbs}
@@ -28,7 +28,7 @@ stands : {s : Bool} {n den : ℕ} {x : Float} → Back s n den x → Stands den 
 stands {s} {n} b = record { is-finite = b .is-finite; reads = b .reads; stays = λ m h. b .stays m (rw (natAbs-sign s n) at h) }
 
 -- one division by 360000.0, which is 5625 * 2 ^ 6
-per-degree : ofInt binary64 (pos perDegree) ≡ fin false 5625 (pos 6)
+pub per-degree : ofInt binary64 (pos perDegree) ≡ fin false 5625 (pos 6)
 unfolding ofInt round
 per-degree = refl
 
@@ -39,18 +39,22 @@ positive : (t : Bool) → Ieee.unlike t false ≡ t
 positive true = refl
 positive false = refl
 
-quotient : (s : Bool) (x : Float) (n : ℕ) → HasValue x s n 1 → Ieee.div binary64 x (fin false 5625 (pos 6)) ≡ round binary64 s n 360000
+quotient : (s : Bool) (x : Float) (n : ℕ) → HasValue x s n 1 →
+    Ieee.div binary64 x (fin false 5625 (pos 6)) ≡ round binary64 s n 360000
 unfolding Ieee.div
 quotient s nan n v = absurd v
 quotient s (inf t) n v = absurd v
 quotient s (fin t m e) n v =
     rw (positive t, v .0)
-    (round-same binary64 s (m * up e * 1) (360000 * down e) n 360000 (mul-pos {m = 360000} (lit< tt) (down-pos e)) (lit< tt) (crossed (m * up e) (down e) n (v .1)))
+    (round-same binary64 s (m * up e * 1) (360000 * down e) n 360000 (mul-pos {m = 360000} (lit< tt) (down-pos e)) (lit< tt)
+    (crossed (m * up e) (down e) n (v .1)))
 
-divided : (s : Bool) (n : ℕ) → n ≤ 2 ^ 53 → Ieee.div binary64 (round binary64 s n 1) (ofInt binary64 (pos perDegree)) ≡ round binary64 s n 360000
+divided : (s : Bool) (n : ℕ) → n ≤ 2 ^ 53 →
+    Ieee.div binary64 (round binary64 s n 1) (ofInt binary64 (pos perDegree)) ≡ round binary64 s n 360000
 divided s n h = rw per-degree (quotient s (round binary64 s n 1) n (round-whole binary64 s n h))
 
-degrees-back : (s : Bool) (n : ℕ) → n < 2 ^ 51 → Back s n 360000 (Ieee.div binary64 (round binary64 s n 1) (ofInt binary64 (pos perDegree)))
+degrees-back : (s : Bool) (n : ℕ) → n < 2 ^ 51 →
+    Back s n 360000 (Ieee.div binary64 (round binary64 s n 1) (ofInt binary64 (pos perDegree)))
 degrees-back s n h = rw (divided s n (omega arith)) (rounded-back s n 360000 (lit< tt) (lit< tt) h)
 
 pub degrees-stand : (z : ℤ) → natAbs z < 2 ^ 51 → Stands perDegree z (degreesOf z)

@@ -1,11 +1,12 @@
 // Forward and inverse on f64: degrees in place of hundredths of an arcsecond, and places as f64 (the "f64 door" of
 // document 01).
 mod answer;
-mod calls;
+mod place;
+mod position;
 mod reading;
 mod writing;
 
 pub use answer::FloatAnswer;
-pub use calls::forward_degrees;
-pub use calls::inverse_degrees;
+pub use place::forward_degrees;
+pub use position::inverse_degrees;
 pub use writing::Degrees;

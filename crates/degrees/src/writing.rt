@@ -1,10 +1,13 @@
 // Writing whole numbers as floats.
 ghost use mathlib.Core.Path.{_≡_};
 ghost use Rattle.projection.specs.Answer.{meaning as wholeMeaning};
-ghost use Rattle.degrees.specs.Writing.{degreesOf, unitsOf};
+ghost use Rattle.degrees.specs.Writing.{degreesOf};
 ghost use Rattle.degrees.specs.Answer.{meaning, onGiven, writtenPlace, writtenPosition};
 use super::answer::FloatAnswer;
 use projection::Answer;
+
+// Hundredths of an arcsecond in a degree.
+const PER_DEGREE: f64 = 360000.0;
 
 // A longitude and a latitude in degrees.
 pub struct Degrees {
@@ -14,18 +17,20 @@ pub struct Degrees {
 
 impl Degrees {
     // A longitude and a latitude in hundredths of an arcsecond, as degrees: one division each.
-    pub fn of(longitude: i32, latitude: i32) -> Degrees
+    pub fn from_centiseconds(longitude: i32, latitude: i32) -> Degrees
         ensures { λ r. ⌜ (r .longitude ≡ degreesOf longitude) × (r .latitude ≡ degreesOf latitude) ⌝ }
     {
+        let east = longitude as f64;
+        let north = latitude as f64;
         Degrees {
-            longitude: (longitude as f64) / 360000.0,
-            latitude: (latitude as f64) / 360000.0,
+            longitude: east / PER_DEGREE,
+            latitude: north / PER_DEGREE,
         }
     }
 }
 
 // A place in map units, as floats.
-pub(crate) fn place(answer: Answer) -> FloatAnswer
+pub(crate) fn written_place(answer: Answer) -> FloatAnswer
     ensures { λ r. ⌜ meaning r ≡ onGiven writtenPlace (wholeMeaning answer) ⌝ }
 {
     match answer {
@@ -35,12 +40,12 @@ pub(crate) fn place(answer: Answer) -> FloatAnswer
 }
 
 // A position in hundredths of an arcsecond, in degrees.
-pub(crate) fn position(answer: Answer) -> FloatAnswer
+pub(crate) fn written_position(answer: Answer) -> FloatAnswer
     ensures { λ r. ⌜ meaning r ≡ onGiven writtenPosition (wholeMeaning answer) ⌝ }
 {
     match answer {
         Answer::Pair(longitude, latitude) => {
-            let at = Degrees::of(longitude, latitude);
+            let at = Degrees::from_centiseconds(longitude, latitude);
             FloatAnswer::Pair(at.longitude, at.latitude)
         }
         Answer::Refused(n) => FloatAnswer::Refused(n),

@@ -1,88 +1,60 @@
-// A request's answer, and how it is written.
+// A request's answer.
 use super::line::Line;
+use super::number::Number;
+use super::values::float;
+use super::values::narrow;
+use super::values::narrow_kind;
+use super::writing::write_answer;
+use super::writing::write_floats;
+use super::writing::write_width;
+use degrees::Degrees;
+use degrees::forward_degrees;
+use degrees::inverse_degrees;
 use libc::STDOUT_FILENO;
-use projection::Answer;
-use projection::Width;
 use projection::forward;
 use projection::half_width;
 use projection::inverse;
-use whole::Signed;
 
 // Answers a line that has ended.
 pub(crate) fn answer(line: Line) {
-    let values = line.values;
-    let kind = narrow_kind(values[0]);
-    let first = narrow(values[1]);
-    let second = narrow(values[2]);
-    let third = narrow(values[3]);
-    if line.asks(b'w', 2) {
-        write_width(half_width(kind, first));
-    } else if line.asks(b'f', 4) {
-        write_answer(forward(kind, first, second, third));
-    } else if line.asks(b'i', 4) {
-        write_answer(inverse(kind, first, second, third));
-    } else {
-        io::write_all(STDOUT_FILENO, b"unreadable");
+    let numbers = line.numbers;
+    let kind = narrow_kind(numbers[0]);
+    let first = narrow(numbers[1]);
+    let second = narrow(numbers[2]);
+    let third = narrow(numbers[3]);
+    match line.request() {
+        b'w' => {
+            write_width(half_width(kind, first));
+        }
+        b'f' => {
+            write_answer(forward(kind, first, second, third));
+        }
+        b'i' => {
+            write_answer(inverse(kind, first, second, third));
+        }
+        b'F' => {
+            answer_position(kind, numbers[1], numbers[2], numbers[3]);
+        }
+        b'I' => {
+            answer_place(kind, numbers[1], numbers[2], numbers[3]);
+        }
+        _ => {
+            io::write_all(STDOUT_FILENO, b"unreadable");
+        }
     }
     io::write_all(STDOUT_FILENO, b"\n");
 }
 
-fn write_width(width: Width) {
-    match width {
-        Width::Units(w) => {
-            io::print_decimal(STDOUT_FILENO, w as u64);
-        }
-        Width::Refused(n) => {
-            write_refusal(n);
-        }
-    }
+// Answers a position in degrees.
+fn answer_position(kind: u8, central: Number, longitude: Number, latitude: Number) {
+    let at = Degrees {
+        longitude: float(longitude),
+        latitude: float(latitude),
+    };
+    write_floats(forward_degrees(kind, float(central), at));
 }
 
-fn write_answer(answer: Answer) {
-    match answer {
-        Answer::Pair(first, second) => {
-            write_number(first);
-            io::write_all(STDOUT_FILENO, b" ");
-            write_number(second);
-        }
-        Answer::Refused(n) => {
-            write_refusal(n);
-        }
-    }
-}
-
-fn write_refusal(n: u8) {
-    io::write_all(STDOUT_FILENO, b"refused ");
-    io::print_decimal(STDOUT_FILENO, n as u64);
-}
-
-fn write_number(z: i32) {
-    let number = Signed::split(z);
-    if number.negative {
-        io::write_all(STDOUT_FILENO, b"-");
-    }
-    io::print_decimal(STDOUT_FILENO, number.size as u64);
-}
-
-// The number as a kind, or 0, which is none.
-fn narrow_kind(value: Signed) -> u8 {
-    if value.negative {
-        return 0;
-    }
-    if value.size > 255 {
-        0
-    } else {
-        value.size as u8
-    }
-}
-
-// The number in 32 bits, or the farthest on its side of 0.
-fn narrow(value: Signed) -> i32 {
-    if value.size < 2147483648 {
-        value.join() as i32
-    } else if value.negative {
-        i32::MIN
-    } else {
-        i32::MAX
-    }
+// Answers a place in floats.
+fn answer_place(kind: u8, central: Number, x: Number, y: Number) {
+    write_floats(inverse_degrees(kind, float(central), float(x), float(y)));
 }

@@ -1,5 +1,5 @@
-// A line of the input, read a byte at a time: a letter, then whole numbers in decimal with spaces between them.
-use whole::Signed;
+// A line of the input, read a byte at a time: a letter, then whole numbers with spaces between them.
+use super::number::Number;
 
 // The letter of a line that has no byte yet: no line holds it.
 pub const NONE: u8 = b'\n';
@@ -7,18 +7,13 @@ pub const NONE: u8 = b'\n';
 // The most numbers that a request has.
 const MOST: usize = 4;
 
-// A size from here up is far past 31 bits with a digit more, and how far is not kept.
-const ENOUGH: u32 = 400_000_000;
-
 pub struct Line {
     pub letter: u8,
-    pub values: [Signed; MOST],
+    pub numbers: [Number; MOST],
     pub count: usize,
     // The number that is being read.
-    pub size: u32,
-    pub digits: bool,
-    pub negative: bool,
-    // Whether the bytes so far can begin a request.
+    pub number: Number,
+    // Whether the numbers so far can begin a request's.
     pub good: bool,
 }
 
@@ -26,11 +21,9 @@ impl Line {
     pub(crate) fn new() -> Line {
         Line {
             letter: NONE,
-            values: [Signed::split(0); MOST],
+            numbers: [Number::new(); MOST],
             count: 0,
-            size: 0,
-            digits: false,
-            negative: false,
+            number: Number::new(),
             good: true,
         }
     }
@@ -44,53 +37,37 @@ impl Line {
         if byte == b' ' {
             return self.with_end();
         }
-        if byte == b'-' {
-            self.good = self.good && !self.digits && !self.negative;
-            self.negative = true;
-            return self;
-        }
-        if byte < b'0' || byte > b'9' {
-            self.good = false;
-            return self;
-        }
-        self.size = grown(self.size, byte - b'0');
-        self.digits = true;
+        let number = self.number;
+        let longer = number.with_byte(byte);
+        self.number = longer;
         self
     }
 
-    // The line with the number that is being read, if there is one, among its values.
+    // The line with the number that is being read, if there is one, among its numbers.
     pub(crate) fn with_end(mut self) -> Line {
-        if !self.digits {
-            self.good = self.good && !self.negative;
+        let number = self.number;
+        if !number.begun {
             return self;
         }
         let at = self.count;
-        if at >= MOST {
+        if at >= MOST || !number.is_whole() {
             self.good = false;
             return self;
         }
-        self.values[at] = Signed {
-            negative: self.negative,
-            size: self.size,
-        };
+        self.numbers[at] = number;
         self.count = at + 1;
-        self.size = 0;
-        self.digits = false;
-        self.negative = false;
+        let next = Number::new();
+        self.number = next;
         self
     }
 
-    // Whether an ended line is a request of this letter with so many numbers.
-    pub(crate) fn asks(self, letter: u8, count: usize) -> bool {
-        self.good && self.letter == letter && self.count == count
-    }
-}
-
-// The size with a decimal digit more.
-fn grown(size: u32, digit: u8) -> u32 {
-    if size < ENOUGH {
-        size * 10 + digit as u32
-    } else {
-        u32::MAX
+    // The letter of an ended line that has as many numbers as that letter asks for, or else NONE.
+    pub(crate) fn request(self) -> u8 {
+        let asked: usize = if self.letter == b'w' { 2 } else { MOST };
+        if self.good && self.count == asked {
+            self.letter
+        } else {
+            NONE
+        }
     }
 }

@@ -1,9 +1,13 @@
 // Answers requests from standard input on standard output, a line for each: 'w KIND LATITUDE' by the half-width of a
 // parallel, 'f KIND CENTRAL LONGITUDE LATITUDE' by the place's x and y, 'i KIND CENTRAL X Y' by the position's longitude and
 // latitude, or by 'refused' and the number; any other line by 'unreadable'. Angles are in hundredths of an arcsecond;
-// CENTRAL is the central meridian.
+// CENTRAL is the central meridian. 'F' and 'I' ask the same as 'f' and 'i' on floats, in degrees; a float is given and
+// answered by its 64 bits.
 mod answers;
 mod line;
+mod number;
+mod values;
+mod writing;
 
 use answers::answer;
 use libc::STDERR_FILENO;

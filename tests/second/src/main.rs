@@ -1,6 +1,11 @@
 //! The second program: document 01's rules once more, with no code of the product. `second requests` writes requests for
-//! the program `query`, and `second answers` reads such requests and writes what is to be answered.
+//! the program `query`, and `second answers` reads such requests and writes what is to be answered. `second random SEED
+//! ROUNDS` writes more requests on floats than the stored ones.
 mod edges;
+mod float;
+mod float_edges;
+mod float_random;
+mod float_requests;
 mod map;
 mod requests;
 mod table;
@@ -8,21 +13,27 @@ mod table;
 use map::{forward, half_width, inverse, Answer};
 use std::io::{self, Read, Write};
 
-/// Past 32 bits, and small enough for every product.
-const FAR: i128 = 1 << 40;
+/// Past 64 bits: outside every range, and no float's bits.
+const FAR: i128 = 1 << 64;
 
 fn main() -> io::Result<()> {
     table::check();
     let mut out = io::stdout().lock();
-    match std::env::args().nth(1).as_deref() {
-        Some("requests") => out.write_all(requests::all().as_bytes()),
-        Some("answers") => {
+    let words: Vec<String> = std::env::args().skip(1).collect();
+    match words.iter().map(String::as_str).collect::<Vec<_>>()[..] {
+        ["requests"] => out.write_all(requests::all().as_bytes()),
+        ["answers"] => {
             let mut text = Vec::new();
             io::stdin().read_to_end(&mut text)?;
             out.write_all(answers(&text).as_bytes())
         }
+        ["random", seed, rounds] => {
+            let [seed, rounds] = [seed, rounds].map(|word| word.parse().expect("a number"));
+            let lines = float_random::lines(seed, rounds);
+            out.write_all((lines.join("\n") + "\n").as_bytes())
+        }
         _ => {
-            eprintln!("second requests | second answers");
+            eprintln!("second requests | second answers | second random SEED ROUNDS");
             std::process::exit(2)
         }
     }
@@ -47,11 +58,18 @@ fn answer(line: &str) -> String {
             forward(kind, central, longitude, latitude)
         }
         (Some('i'), Some(&[kind, central, x, y])) => inverse(kind, central, x, y),
+        (Some('F'), Some(&[kind, central, longitude, latitude])) => {
+            float::forward(kind, float(central), float(longitude), float(latitude))
+        }
+        (Some('I'), Some(&[kind, central, x, y])) => {
+            float::inverse(kind, float(central), float(x), float(y))
+        }
         _ => return "unreadable".to_string(),
     };
     match answer {
         Answer::Width(w) => w.to_string(),
         Answer::Pair(first, second) => format!("{first} {second}"),
+        Answer::Floats(first, second) => format!("{} {}", bits(first), bits(second)),
         Answer::Refused(n) => format!("refused {n}"),
     }
 }
@@ -63,14 +81,29 @@ fn numbers(line: &str) -> Option<Vec<i128>> {
     words.map(number).collect()
 }
 
-/// A number, or one far past every range where it has too many digits.
+/// A number, or one far past every range where it has too many digits. Hexadecimal digits stand after an `x`.
 fn number(word: &str) -> Option<i128> {
-    let (sign, digits) = match word.strip_prefix('-') {
-        Some(digits) => (-1, digits),
+    let (sign, word) = match word.strip_prefix('-') {
+        Some(rest) => (-1, rest),
         None => (1, word),
     };
-    if digits.is_empty() || !digits.bytes().all(|b| b.is_ascii_digit()) {
+    let (base, digits) = match word.strip_prefix('x') {
+        Some(digits) => (16, digits),
+        None => (10, word),
+    };
+    if digits.is_empty() || !digits.chars().all(|c| c.is_digit(base)) {
         return None;
     }
-    Some(sign * digits.parse().unwrap_or(FAR).min(FAR))
+    let size = i128::from_str_radix(digits, base).unwrap_or(FAR);
+    Some(sign * size.min(FAR))
+}
+
+/// The float with these bits. A number that is no 64 bits counts as a NaN.
+fn float(bits: i128) -> f64 {
+    u64::try_from(bits).map_or(f64::NAN, f64::from_bits)
+}
+
+/// A float by its bits.
+pub fn bits(x: f64) -> String {
+    format!("x{:016x}", x.to_bits())
 }

@@ -4,14 +4,16 @@ use crate::table::{row_of, Row};
 pub const HALF_TURN: i128 = 180 * 60 * 60 * 100;
 pub const RIGHT_ANGLE: i128 = 90 * 60 * 60 * 100;
 
+#[derive(PartialEq)]
 pub enum Answer {
     Width(i128),
     Pair(i128, i128),
+    Floats(f64, f64),
     Refused(u8),
 }
 
-/// The whole number nearest to n / d, halves away from zero.
-fn nearest(n: i128, d: i128) -> i128 {
+/// The whole number nearest to n / d, halves away from zero. Every rounding of the second program is this one.
+pub fn nearest(n: i128, d: i128) -> i128 {
     let up = (2 * n.abs() + d) / (2 * d);
     if n < 0 {
         -up

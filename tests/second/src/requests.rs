@@ -1,5 +1,6 @@
 //! Requests over every kind and every edge that document 01 names, and some thousand at random from a fixed seed.
 use crate::edges;
+use crate::float_requests;
 use crate::map::{forward, inverse, row_latitude, row_width, row_y, Answer};
 use crate::map::{HALF_TURN, RIGHT_ANGLE};
 use crate::table::row_of;
@@ -15,6 +16,7 @@ pub fn all() -> String {
     lines.extend(random());
     lines.extend(DOCUMENT.map(String::from));
     lines.extend(ODD.map(String::from));
+    lines.extend(float_requests::all());
     // the last line has no end of its own
     lines.push(width(2, 72 * DEGREE));
     lines.join("\n")
@@ -161,7 +163,7 @@ fn within(state: &mut u64, limit: i128) -> i128 {
 }
 
 /// A step of xorshift.
-fn next(state: &mut u64) -> u64 {
+pub fn next(state: &mut u64) -> u64 {
     *state ^= *state << 13;
     *state ^= *state >> 7;
     *state ^= *state << 17;

@@ -1,5 +1,4 @@
 -- `degrees::reading::quarters` meets its contract: the two parts are the product, and nothing needs more than 64 bits.
-use mathlib.Core.Path.{_≡_, sym, ap, _∙_}
 use Prim.Native.Nat.{ℕ, _+_, _*_, _/_, _%_, _^_, _<_}
 use native.Mathlib.Nat.{mod-le, div-le-self}
 use native.Mathlib.Omega.{arith}

@@ -1,12 +1,12 @@
 -- `degrees::reading::read` meets its contract: the pattern's sign with the size read from it.
 use mathlib.Core.Bool.{true, not, true≢false}
 use mathlib.Core.Path.{_≡_, refl, sym, ap, subst, _∙_}
-use Prim.Native.Nat.{ℕ, _<_, _^_, min}
+use Prim.Native.Nat.{_<_, _^_, min}
 use native.Mathlib.Omega.{arith}
 use borrow.Author.Needs.{needs}
 use lib.Dec.{T, leb}
 use lib.IntN.{natAbs}
-use lib.Ieee.{Float, nan, inf, fin, binary64, fits, isNan, toBits, ofBits}
+use lib.Ieee.{Float, nan, inf, fin, binary64, isNan, toBits, ofBits}
 use lib.Ieee.Bits.{ofBits-toBits}
 use lib.Ieee.Scale.{finite}
 use Rattle.whole.specs.declared.Signed.{Signed}
@@ -56,7 +56,9 @@ join-requires : tie.Need-join-requires
 join-requires c κs = search needs
 
 cast-result : tie.Need-cast-result
-cast-result c = rw (join-wide (number (c .before)) (size-low (c .before)) (c .join .ensures)) (join-fits (number (c .before)) (size-low (c .before)))
+cast-result c =
+    let l = size-low (c .before) in
+    rw (join-wide (number (c .before)) l (c .join .ensures)) (join-fits (number (c .before)) l)
 
 returns : tie.Need-returns
 returns c = join-back (number (c .before)) (size-low (c .before)) (c .join .ensures) ∙ number-is (c .before)

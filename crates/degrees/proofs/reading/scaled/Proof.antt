@@ -28,7 +28,8 @@ rounded c =
 returns : tie.Need-returns
 returns c =
     let s = c .before in
-    omega (arith, large (s .args .digits) (s .args .power) (s .args .by) (s .pre .1 .0 (omega (arith, c .if1 .taken))) (s .pre .1 .1 .0) (c .if1 .taken))
+    let leading = s .pre .1 .0 (omega (arith, c .if1 .taken)) in
+    omega (arith, large (s .args .digits) (s .args .power) (s .args .by) leading (s .pre .1 .1 .0) (c .if1 .taken))
 
 returns-2 : tie.Need-returns-2
 returns-2 c =

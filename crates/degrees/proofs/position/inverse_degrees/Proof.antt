@@ -1,0 +1,138 @@
+-- `degrees::position::inverse_degrees` meets its contract: its tests are the conditions of the refusals, in their order, and
+-- the rest is answered by `inverse` at the numbers read.
+use mathlib.Core.Bool.{not}
+use mathlib.Core.Path.{_≡_, sym, ap, _∙_}
+use borrow.Author.Needs.{needs}
+use borrow.Author.Tests.{not-true, not-false}
+use mir.Syntax.{w32}
+use mir.Val.{toZ, ofZ}
+use Rattle.projection.specs.Refusal.{badKind}
+use Rattle.projection.specs.Answer.{meaning, inverseOf as inverseNumbers}
+use Rattle.projection.proofs.Orders.{Passes}
+use Rattle.degrees.specs.Reading.{centiseconds, units}
+use Rattle.degrees.specs.Refusal.{badCentral}
+use Rattle.degrees.specs.Answer.{onGiven, writtenPosition}
+use Rattle.degrees.proofs.Floats.{limit-180}
+use Rattle.degrees.proofs.Orders.{Finite, all-finite, inverse-1, inverse-2, inverse-3}
+use Rattle.degrees.proofs.Numbers.{within-180, angle-back, held, held-back, inverse-numbers, inverse-held}
+use Rattle.degrees.proofs.position.inverse_degrees.Statement.{statement}
+use Rattle.degrees.proofs.position.inverse_degrees.Tie as tie
+
+-- the way back to what was handed in, from each test
+abbrev start1 : tie.Else1 → tie.Start
+start1 c = c .before .before
+
+abbrev start2 : tie.Else2 → tie.Start
+start2 c = start1 (c .before .before)
+
+abbrev start3 : tie.Else3 → tie.Start
+start3 c = start2 (c .before .before)
+
+-- each test is the condition of its refusal
+kind-test : (c : tie.After-is-kind) → not (c .is-kind .result) ≡ badKind (c .before .args .kind) .applies
+kind-test c = ap not (c .is-kind .ensures)
+
+kind-good : (c : tie.Else1) → Passes (badKind (start1 c .args .kind))
+kind-good c = sym (kind-test (c .before)) ∙ c .if1 .left
+
+all-good : (c : tie.Else2) → let s = start2 c .args in Finite (s .central) (s .x) (s .y)
+all-good c =
+    let s = start2 c .args in
+    all-finite (s .central) (s .x) (s .y) (sym (c .before .all-finite .ensures) ∙ not-false (c .before .all-finite .result) (c .if2 .left))
+
+central-test : (c : tie.After-outside) → c .outside .result ≡ badCentral (start2 (c .before) .args .central) .applies
+central-test c = c .outside .ensures ∙ limit-180 (start2 (c .before) .args .central) (all-good (c .before) .first)
+
+central-good : (c : tie.Else3) → Passes (badCentral (start3 c .args .central))
+central-good c = sym (central-test (c .before)) ∙ c .if3 .left
+
+-- the numbers that are handed on
+central-is : (c : tie.After-centiseconds) → toZ w32 (ofZ w32 (c .centiseconds .result)) ≡ centiseconds (start3 (c .before) .args .central)
+central-is c =
+    let x = start3 (c .before) .args .central in
+    angle-back x (within-180 x (central-good (c .before))) (c .centiseconds .ensures)
+
+x-is : (c : tie.After-units) → toZ w32 (ofZ w32 (c .units .result)) ≡ held (units (start3 (c .before .before) .args .x))
+x-is c = held-back (units (start3 (c .before .before) .args .x)) (c .units .ensures)
+
+y-is : (c : tie.After-units2) → toZ w32 (ofZ w32 (c .units2 .result)) ≡ held (units (start3 (c .before .before .before) .args .y))
+y-is c = held-back (units (start3 (c .before .before .before) .args .y)) (c .units2 .ensures)
+
+answered : (c : tie.After-inverse) →
+    let s = start3 (c .before .before .before .before) .args in
+    meaning (c .inverse .result) ≡ inverseNumbers (s .kind) (centiseconds (s .central)) (units (s .x)) (units (s .y))
+answered c =
+    let c3 = c .before .before .before .before in
+    let s = start3 c3 .args in
+    rw (central-is (c .before .before .before), x-is (c .before .before), y-is (c .before)) at (c .inverse .ensures)
+    ∙ inverse-held (s .kind) (centiseconds (s .central)) (units (s .x)) (units (s .y)) (kind-good (c3 .before .before .before .before))
+    (within-180 (s .central) (central-good c3))
+
+is-kind-requires : tie.Need-is-kind-requires
+is-kind-requires c κs = search needs
+
+returns : tie.Need-returns
+returns c =
+    let s = c .before .before .args in
+    inverse-1 (s .kind) (s .central) (s .x) (s .y) (sym (kind-test (c .before)) ∙ c .if1 .taken)
+
+all-finite-requires : tie.Need-all-finite-requires
+all-finite-requires c κs = search needs
+
+returns-2 : tie.Need-returns-2
+returns-2 c =
+    let c1 = c .before .before in
+    let s = start1 c1 .args in
+    inverse-2 (s .kind) (s .central) (s .x) (s .y) (kind-good c1)
+    (sym (c .before .all-finite .ensures) ∙ not-true (c .before .all-finite .result) (c .if2 .taken))
+
+outside-requires : tie.Need-outside-requires
+outside-requires c κs = search needs
+
+returns-3 : tie.Need-returns-3
+returns-3 c =
+    let c2 = c .before .before in
+    let s = start2 c2 .args in
+    inverse-3 (s .kind) (s .central) (s .x) (s .y) (kind-good (c2 .before .before)) (all-good c2)
+    (sym (central-test (c .before)) ∙ c .if3 .taken)
+
+centiseconds-requires : tie.Need-centiseconds-requires
+centiseconds-requires c κs = (all-good (c .before .before) .first, within-180 (start3 c .args .central) (central-good c))
+
+units-requires : tie.Need-units-requires
+units-requires c κs = all-good (c .before .before .before) .second
+
+units-requires-2 : tie.Need-units-requires-2
+units-requires-2 c κs = all-good (c .before .before .before .before) .third
+
+inverse-requires : tie.Need-inverse-requires
+inverse-requires c κs = search needs
+
+written-position-requires : tie.Need-written-position-requires
+written-position-requires c κs = search needs
+
+returns-4 : tie.Need-returns-4
+returns-4 c =
+    let c3 = c .before .before .before .before .before in
+    let c2 = c3 .before .before in
+    let s = start3 c3 .args in
+    c .written-position .ensures
+    ∙ ap (onGiven writtenPosition) (answered (c .before))
+    ∙ inverse-numbers (s .kind) (s .central) (s .x) (s .y) (kind-good (c2 .before .before)) (all-good c2) (central-good c3)
+
+pub inverse-degrees-spec : {M : Type 1} → statement M
+inverse-degrees-spec =
+    tie.close
+    (tie.spec
+    is-kind-requires
+    returns
+    all-finite-requires
+    returns-2
+    outside-requires
+    returns-3
+    centiseconds-requires
+    units-requires
+    units-requires-2
+    inverse-requires
+    written-position-requires
+    returns-4)

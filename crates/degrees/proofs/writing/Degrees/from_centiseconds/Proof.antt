@@ -1,0 +1,34 @@
+-- `degrees::writing::Degrees::from_centiseconds` meets its contract: 32 bits are floats exactly, and so is 360,000.
+use mathlib.Core.Path.{_≡_, refl}
+use borrow.Author.Needs.{needs}
+use lib.IntN.{ℤ, pos}
+use lib.Ieee.{binary64, ofInt, ofBits, round, div}
+use mir.Syntax.{w32}
+use mir.Val.{SFits, toZ, ofZ}
+use mir.Facts.{toZ-ofZ}
+use Rattle.degrees.specs.Writing.{degreesOf}
+use Rattle.degrees.proofs.writing.Degrees.from_centiseconds.Statement.{statement}
+use Rattle.degrees.proofs.writing.Degrees.from_centiseconds.Tie as tie
+
+int-to-float-east : tie.Need-int-to-float-east
+int-to-float-east c = search needs
+
+int-to-float-north : tie.Need-int-to-float-north
+int-to-float-north c = search needs
+
+-- the code's 360000.0
+per-degree : ofBits binary64 4689928365371555840 ≡ ofInt binary64 (pos 360000)
+unfolding ofBits ofInt round
+per-degree = refl
+
+divided : (z : ℤ) → SFits w32 z → div binary64 (ofInt binary64 (toZ w32 (ofZ w32 z))) (ofBits binary64 4689928365371555840) ≡ degreesOf z
+unfolding degreesOf
+divided z f = rw (toZ-ofZ f, per-degree)
+
+returns : tie.Need-returns
+returns c =
+    let s = c .before .before in
+    (divided (s .args .longitude) (s .fits .longitude), divided (s .args .latitude) (s .fits .latitude))
+
+pub from-centiseconds-spec : {M : Type 1} → statement M
+from-centiseconds-spec = tie.close (tie.spec int-to-float-east int-to-float-north returns)

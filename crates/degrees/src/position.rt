@@ -1,0 +1,27 @@
+// Inverse on floats: judged here as floats, and answered as the numbers read are.
+ghost use mathlib.Core.Path.{_≡_};
+ghost use Rattle.degrees.specs.Answer.{meaning, inverseOf};
+use super::answer::FloatAnswer;
+use super::reading::all_finite;
+use super::reading::centiseconds;
+use super::reading::outside;
+use super::reading::units;
+use super::writing::written_position;
+use projection::inverse;
+use projection::is_kind;
+
+// The position in degrees at a place; or the first refusal of 1, 2, 3, 6 and 7.
+pub fn inverse_degrees(kind: u8, central: f64, x: f64, y: f64) -> FloatAnswer
+    ensures { λ r. ⌜ meaning r ≡ inverseOf kind central x y ⌝ }
+{
+    if !is_kind(kind) {
+        return FloatAnswer::Refused(1);
+    }
+    if !all_finite(central, x, y) {
+        return FloatAnswer::Refused(2);
+    }
+    if outside(central, 180.0) {
+        return FloatAnswer::Refused(3);
+    }
+    written_position(inverse(kind, centiseconds(central), units(x), units(y)))
+}

@@ -1,0 +1,68 @@
+// How answers are written.
+ghost use Rattle.degrees.specs.Answer.{meaning};
+ghost use Rattle.query.specs.Floats.{HasBits, HaveBits};
+use degrees::FloatAnswer;
+use libc::STDOUT_FILENO;
+use projection::Answer;
+use projection::Width;
+use whole::Signed;
+
+pub(crate) fn write_width(width: Width) {
+    match width {
+        Width::Units(w) => {
+            io::print_decimal(STDOUT_FILENO, w as u64);
+        }
+        Width::Refused(n) => {
+            write_refusal(n);
+        }
+    }
+}
+
+pub(crate) fn write_answer(answer: Answer) {
+    match answer {
+        Answer::Pair(first, second) => {
+            write_number(first);
+            io::write_all(STDOUT_FILENO, b" ");
+            write_number(second);
+        }
+        Answer::Refused(n) => {
+            write_refusal(n);
+        }
+    }
+}
+
+pub(crate) fn write_floats(answer: FloatAnswer)
+    requires { ⌜ HaveBits (meaning answer) ⌝ }
+{
+    match answer {
+        FloatAnswer::Pair(first, second) => {
+            write_float(first);
+            io::write_all(STDOUT_FILENO, b" ");
+            write_float(second);
+        }
+        FloatAnswer::Refused(n) => {
+            write_refusal(n);
+        }
+    }
+}
+
+fn write_refusal(n: u8) {
+    io::write_all(STDOUT_FILENO, b"refused ");
+    io::print_decimal(STDOUT_FILENO, n as u64);
+}
+
+fn write_number(z: i32) {
+    let number = Signed::split(z);
+    if number.negative {
+        io::write_all(STDOUT_FILENO, b"-");
+    }
+    io::print_decimal(STDOUT_FILENO, number.size as u64);
+}
+
+// A float by its bits.
+fn write_float(x: f64)
+    requires { ⌜ HasBits x ⌝ }
+{
+    io::write_all(STDOUT_FILENO, b"x");
+    io::print_hex(STDOUT_FILENO, f64::to_bits(x), 16);
+}
