@@ -17,18 +17,19 @@ use Rattle.projection.specs.Refusal.{refused, given, isKind}
 use Rattle.projection.specs.Answer.{forwardOf, inverseOf}
 use Rattle.projection.proofs.Judged as Judged
 use Rattle.projection.proofs.Rows.{columns}
-use Rattle.projection.proofs.Places.{height-le}
+use Rattle.projection.proofs.Found.{pole-small, found-small}
 use Rattle.degrees.specs.Reading.{readOf, perDegree, centiseconds, units, outside}
 use Rattle.degrees.specs.Writing.{degreesOf, unitsOf}
 use Rattle.degrees.specs.Answer.{onGiven, writtenPlace, writtenPosition, forwardOrder, inverseOrder, forwardOf as forwardDegrees, inverseOf as inverseDegrees}
 use Rattle.degrees.proofs.Turned.{finite-neg, outside-neg, read-neg, read-zero}
-use Rattle.degrees.proofs.Written.{Stands, degrees-stand, units-stand}
+use Rattle.degrees.proofs.Rounded.{Stands}
+use Rattle.degrees.proofs.Written.{degrees-stand, units-stand}
 use Rattle.degrees.proofs.Numbers.{within-180, within-90, forward-numbers, inverse-numbers}
 use Rattle.claims.specs.Demand3.{TurnedFloat, floats}
 use Rattle.claims.proofs.Refusals.{unless-given, same-refusals}
 use Rattle.claims.proofs.Accepted.{kind-false, Position, position, accepts, Place, place, admits}
 use Rattle.claims.proofs.Returning.{forward-back}
-use Rattle.claims.proofs.Resending.{width-below, back-forward}
+use Rattle.claims.proofs.Resending.{back-forward}
 use Rattle.claims.proofs.Ways.{Given, Accepts, Sent, SentBack, ByNumbers}
 
 -- a float turned
@@ -65,9 +66,9 @@ place-small : (kind : ℕ) (c l f x y : ℤ) → forwardOf kind c l f ≡ given 
 place-small kind c l f x y e =
     let r = forward-back kind c l f x y e in
     let p = place kind c x y (r .longitude, r .latitude) (r .accepted) .0 in
-    let w = width-below kind c x y p in
-    let k = columns kind (p .kind-good) .ky-high in
-    (omega (arith, p .x-le), omega (arith, p .y-le, height-le (rowOf kind) H (omega arith)))
+    let r = rowOf kind in
+    let k = columns kind (p .kind-good) in
+    (omega (arith, p .x-le, found-small r k y (p .y-le)), omega (arith, p .y-le, pole-small r k))
 
 position-small : (kind : ℕ) (c x y l f : ℤ) → inverseOf kind c x y ≡ given (l, f) → (natAbs l ≤ N) × (natAbs f ≤ H)
 position-small kind c x y l f e =

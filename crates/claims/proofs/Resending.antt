@@ -19,11 +19,10 @@ use Rattle.projection.specs.Refusal.{given}
 use Rattle.projection.specs.Columns.{Columns}
 use Rattle.projection.specs.Answer.{inverseOf}
 use Rattle.projection.proofs.Rows.{columns}
-use Rattle.projection.proofs.Widths.{width-small}
 use Rattle.projection.proofs.Longitudes.{longitude-le}
 use Rattle.projection.proofs.Scales.{scaled-zero, unscaled-le}
 use Rattle.projection.proofs.Places.{x-on, y-on, height-zero, height-le}
-use Rattle.projection.proofs.Found.{latitude-le, difference-on}
+use Rattle.projection.proofs.Found.{latitude-le, found-small, difference-on}
 use Rattle.claims.specs.Demand3.{numbers, Close, Resends}
 use Rattle.claims.proofs.Accepted.{Position, accepts, Place, place}
 use Rattle.claims.proofs.Returning.{not-zero}
@@ -67,9 +66,8 @@ module _ (kind : ℕ) (c x y : ℤ) (p : Place kind c x y) where
   unfolding widthAt
   width-same = ap (halfWidth r) latitude-size
 
-  pub width-below : w < 5 * N
-  unfolding widthAt
-  width-below = width-small r (latitudeSize r (natAbs y)) (record { columns = cols; latitude = size-low })
+  width-below : w < 5 * N
+  width-below = found-small r cols y (p .y-le)
 
   d-le : natAbs d ≤ N
   d-le = rw (difference-on w x, natAbs-on (λ (n : ℕ). nearest (n * N) w) x) (unscaled-le w (natAbs x) (p .x-le))

@@ -54,7 +54,7 @@ at-power q p by h =
     ap₂ (λ (x y : ℕ). nearest x y) (mul-right-comm q (2 ^ p) by) (sym (denominator p h))
     ∙ nearest-scale (q * by) (2 * j) (2 ^ p) (mul-pos {m = 2} (lit< tt) (mul-pos (pow-pos (1061 - p)) (lit< tt))) (pow-pos p)
 
--- more than 2 ^ 75 times as many places as the product has: nothing is left of it
+-- behind so many places nothing is left of the product
 pub tiny : (q p by : ℕ) → q < 2 ^ 53 → by ≤ 360000 → p ≤ 1061 → 64 ≤ 1061 - p → nearest (q * 2 ^ p * by) (2 ^ 1074) ≡ 0
 tiny q p by h k l m =
     let f = product-fits q by h k in

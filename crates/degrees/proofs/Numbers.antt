@@ -16,16 +16,14 @@ use Rattle.projection.specs.declared.table.Row.{Row}
 use Rattle.projection.specs.Angle.{N, H, outside}
 use Rattle.projection.specs.Table.{rowOf}
 use Rattle.projection.specs.Parallel.{height}
-use Rattle.projection.specs.Inverse.{latitudeSize, widthAt, positionOf}
+use Rattle.projection.specs.Inverse.{widthAt, positionOf}
 use Rattle.projection.specs.Refusal.{Refusal, refused, unless, isKind, badKind}
 use Rattle.projection.specs.Columns.{Columns}
 use Rattle.projection.specs.Answer.{rowOrder, onRow, forwardOf as forwardNumbers, inverseOf as inverseNumbers}
 use Rattle.projection.proofs.Orders.{Passes, forward-given as numbers-given, inverse-row as numbers-row, row-6, row-7}
 use Rattle.projection.proofs.Judged.{not-false}
 use Rattle.projection.proofs.Rows.{columns}
-use Rattle.projection.proofs.Widths.{width-small}
-use Rattle.projection.proofs.Places.{height-le}
-use Rattle.projection.proofs.Found.{latitude-le}
+use Rattle.projection.proofs.Found.{pole-small, found-small}
 use Rattle.degrees.specs.Reading.{centiseconds, units}
 use Rattle.degrees.specs.Refusal.{badCentral, badLongitude, badLatitude}
 use Rattle.degrees.specs.Answer.{onGiven, writtenPlace, writtenPosition, forwardOf, inverseOf}
@@ -91,16 +89,13 @@ held-outside n z h = rw (natAbs-on (min 2147483647) z) (go (outside n z) refl)
     go false e = le-ltb n (min 2147483647 (natAbs z)) (omega (arith, ltb-false n (natAbs z) e))
 
 row-held : (r : Row) → Columns r → (c x y : ℤ) → onRow r c (held x) (held y) ≡ onRow r c x y
-unfolding widthAt
 row-held r cols c x y = at-y (outside (height r H) y) refl
   where
     top : height r H < 5 * N
-    top = omega (arith, cols .ky-high, height-le r H (omega arith))
+    top = pole-small r cols
 
     width : outside (height r H) y ≡ false → widthAt r y < 5 * N
-    width e =
-        let p = latitudeSize r (natAbs y) in
-        width-small r p (record { columns = cols; latitude = latitude-le r cols (natAbs y) (ltb-false (height r H) (natAbs y) e) })
+    width e = found-small r cols y (ltb-false (height r H) (natAbs y) e)
 
     at-x : (b : Bool) → outside (height r H) y ≡ false → outside (widthAt r y) x ≡ b → onRow r c (held x) y ≡ onRow r c x y
     at-x true e d = sym (row-7 r c (held x) y e (held-outside (widthAt r y) x (width e) ∙ d)) ∙ row-7 r c x y e d

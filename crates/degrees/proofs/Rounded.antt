@@ -9,6 +9,7 @@ use native.Mathlib.Omega.{arith}
 use borrow.Author.Tests.{le-ltb}
 use lib.Dec.{lit<}
 use lib.Pow.{pow-add, pow-pos, pow-mono}
+use lib.IntN.{ℤ, natAbs}
 use lib.Ieee as Ieee
 use lib.Ieee.{Float, nan, inf, fin, binary64, up, down, round}
 use lib.Ieee.Digits.{size-reaches}
@@ -19,6 +20,7 @@ use lib.Ieee.Scale.{finite}
 use Rattle.whole.specs.Nearest.{nearest}
 use Rattle.whole.specs.Signed.{withSign}
 use Rattle.whole.proofs.Scales.{nearest-strict}
+use Rattle.whole.proofs.Signs.{natAbs-sign}
 use Rattle.degrees.specs.Reading.{readOf, outside}
 use Rattle.degrees.proofs.Floats.{read-of}
 
@@ -95,13 +97,15 @@ has-finite nan s a c v = absurd v
 has-finite (inf t) s a c v = absurd v
 has-finite (fin t m e) s a c v = refl
 
--- all of it, of the float nearest to n / den
-pub record Back (s : Bool) (n den : ℕ) (x : Float) : Type 0 where
+-- a float that is a number, is read times den as z, and passes no whole limit that z / den does not pass
+pub record Stands (den : ℕ) (z : ℤ) (x : Float) : Type 0 where
   pub is-finite : finite x ≡ true
-  pub reads : readOf den x ≡ withSign s n
-  pub stays : (L : ℕ) → n ≤ L * den → outside L x ≡ false
+  pub reads : readOf den x ≡ z
+  pub stays : (L : ℕ) → natAbs z ≤ L * den → outside L x ≡ false
 
-pub rounded-back : (s : Bool) (n den : ℕ) → 0 < den → 2 * den < 2 ^ 1074 → n < 2 ^ 51 → Back s n den (round binary64 s n den)
+-- all of it, of the float nearest to n / den
+pub rounded-back : (s : Bool) (n den : ℕ) → 0 < den → 2 * den < 2 ^ 1074 → n < 2 ^ 51 →
+    Stands den (withSign s n) (round binary64 s n den)
 rounded-back s n den h d l =
     let D = 2 ^ 1074 in
     let k = Ieee.size (n * D / den) - 53 in
@@ -117,5 +121,5 @@ rounded-back s n den h d l =
       reads =
           read-of den x s (q * 2 ^ k) D (pow-pos 1074) v
           ∙ ap (withSign s) (comes-back D n den q k u (off (n * D) (den * 2 ^ k) (mul-pos h (pow-pos k))));
-      stays = λ L m. within L x s (q * 2 ^ k) D (pow-pos 1074) v (limited 1074 k n den L i h m);
+      stays = λ L m. within L x s (q * 2 ^ k) D (pow-pos 1074) v (limited 1074 k n den L i h (rw (natAbs-sign s n) at m));
     }

@@ -11,21 +11,11 @@ use lib.Ieee.{Float, nan, inf, fin, binary64, up, down, round, ofInt}
 use lib.Ieee.Back.{round-whole}
 use lib.Ieee.Exact.{HasValue}
 use lib.Ieee.Fits.{down-pos}
-use lib.Ieee.Scale.{finite, round-same}
+use lib.Ieee.Scale.{round-same}
 use Rattle.whole.specs.Signed.{withSign}
-use Rattle.whole.proofs.Signs.{natAbs-sign}
-use Rattle.degrees.specs.Reading.{readOf, outside, perDegree}
+use Rattle.degrees.specs.Reading.{perDegree}
 use Rattle.degrees.specs.Writing.{degreesOf, unitsOf}
-use Rattle.degrees.proofs.Rounded.{Back, rounded-back}
-
--- a float that stands for z times 1 / den
-pub record Stands (den : ℕ) (z : ℤ) (x : Float) : Type 0 where
-  pub is-finite : finite x ≡ true
-  pub reads : readOf den x ≡ z
-  pub stays : (n : ℕ) → natAbs z ≤ n * den → outside n x ≡ false
-
-stands : {s : Bool} {n den : ℕ} {x : Float} → Back s n den x → Stands den (withSign s n) x
-stands {s} {n} b = record { is-finite = b .is-finite; reads = b .reads; stays = λ m h. b .stays m (rw (natAbs-sign s n) at h) }
+use Rattle.degrees.proofs.Rounded.{Stands, rounded-back}
 
 -- one division by 360000.0, which is 5625 * 2 ^ 6
 pub per-degree : ofInt binary64 (pos perDegree) ≡ fin false 5625 (pos 6)
@@ -54,15 +44,15 @@ divided : (s : Bool) (n : ℕ) → n ≤ 2 ^ 53 →
 divided s n h = rw per-degree (quotient s (round binary64 s n 1) n (round-whole binary64 s n h))
 
 degrees-back : (s : Bool) (n : ℕ) → n < 2 ^ 51 →
-    Back s n 360000 (Ieee.div binary64 (round binary64 s n 1) (ofInt binary64 (pos perDegree)))
+    Stands perDegree (withSign s n) (Ieee.div binary64 (round binary64 s n 1) (ofInt binary64 (pos perDegree)))
 degrees-back s n h = rw (divided s n (omega arith)) (rounded-back s n 360000 (lit< tt) (lit< tt) h)
 
 pub degrees-stand : (z : ℤ) → natAbs z < 2 ^ 51 → Stands perDegree z (degreesOf z)
 unfolding degreesOf ofInt
-degrees-stand (pos n) h = stands (degrees-back false n h)
-degrees-stand (negsuc n) h = stands (degrees-back true (suc n) h)
+degrees-stand (pos n) h = degrees-back false n h
+degrees-stand (negsuc n) h = degrees-back true (suc n) h
 
 pub units-stand : (z : ℤ) → natAbs z < 2 ^ 51 → Stands 1 z (unitsOf z)
 unfolding unitsOf ofInt
-units-stand (pos n) h = stands (rounded-back false n 1 (lit< tt) (lit< tt) h)
-units-stand (negsuc n) h = stands (rounded-back true (suc n) 1 (lit< tt) (lit< tt) h)
+units-stand (pos n) h = rounded-back false n 1 (lit< tt) (lit< tt) h
+units-stand (negsuc n) h = rounded-back true (suc n) 1 (lit< tt) (lit< tt) h
