@@ -9,6 +9,8 @@ use lib.Pow.{pow-pos, pow-lt, pow-add, pow-mono}
 use Rattle.whole.specs.Nearest.{nearest}
 use Rattle.whole.proofs.Rounding.{near, nearest-scale}
 use Rattle.whole.proofs.Scales.{nearest-strict, near-ge}
+use Rattle.degrees.specs.Reading.{perDegree}
+use Rattle.degrees.specs.Held.{most}
 
 module _ (q by : ℕ) where
   parts : q / 4096 * by * 4096 + q % 4096 * by ≡ q * by
@@ -23,10 +25,10 @@ module _ (q by : ℕ) where
   pub low-is : q % 4096 * by % 4096 ≡ q * by % 4096
   low-is = sym (mul-add-mod-self-right (q / 4096 * by) 4096 (q % 4096 * by)) ∙ ap (λ (x : ℕ). x % 4096) parts
 
-  pub product-fits : q < 2 ^ 53 → by ≤ 360000 → q * by < 2 ^ 72
+  pub product-fits : q < 2 ^ 53 → by ≤ perDegree → q * by < 2 ^ 72
   product-fits h k = lt-of-le-of-lt (mul-le-mul (le-of-lt h) k) (lit< tt)
 
-  pub low-fits : by ≤ 360000 → q % 4096 * by < 2 ^ 32
+  pub low-fits : by ≤ perDegree → q % 4096 * by < 2 ^ 32
   low-fits k = lt-of-le-of-lt (mul-le-mul (le-of-lt (mod-lt q (lit< tt))) k) (lit< tt)
 
 -- the same, as halves of 2 ^ (13 + d) and what is left over
@@ -54,17 +56,17 @@ at-power q p by h =
     ap₂ (λ (x y : ℕ). nearest x y) (mul-right-comm q (2 ^ p) by) (sym (denominator p h))
     ∙ nearest-scale (q * by) (2 * j) (2 ^ p) (mul-pos {m = 2} (lit< tt) (mul-pos (pow-pos (1061 - p)) (lit< tt))) (pow-pos p)
 
--- behind so many places nothing is left of the product
-pub tiny : (q p by : ℕ) → q < 2 ^ 53 → by ≤ 360000 → p ≤ 1061 → 64 ≤ 1061 - p → nearest (q * 2 ^ p * by) (2 ^ 1074) ≡ 0
+-- a product below 2 ^ 72 over 2 ^ 77 or more is less than a half
+pub tiny : (q p by : ℕ) → q < 2 ^ 53 → by ≤ perDegree → p ≤ 1061 → 64 ≤ 1061 - p → nearest (q * 2 ^ p * by) (2 ^ 1074) ≡ 0
 tiny q p by h k l m =
     let f = product-fits q by h k in
     let P = 2 ^ (1061 - p) in
     let w : 2 ^ 64 ≤ P = pow-mono m in
     at-power q p by l ∙ nearest-strict (q * by) (2 * (P * 4096)) 0 (omega arith) (omega arith) (omega arith)
 
--- no place is left behind the point, and 2 ^ 40 is passed
-pub large : (q p by : ℕ) → 2 ^ 52 ≤ q → 0 < by → 1061 < p → 2147483647 ≤ nearest (q * 2 ^ p * by) (2 ^ 1074)
+-- 2 ^ 40 is reached, far past the most that is held
+pub large : (q p by : ℕ) → 2 ^ 52 ≤ q → 0 < by → 1061 < p → most ≤ nearest (q * 2 ^ p * by) (2 ^ 1074)
 large q p by h k l =
-    near-ge (q * 2 ^ p * by) (2 ^ 1074) 2147483647 (nearest (q * 2 ^ p * by) (2 ^ 1074)) (pow-pos 1074)
+    near-ge (q * 2 ^ p * by) (2 ^ 1074) most (nearest (q * 2 ^ p * by) (2 ^ 1074)) (pow-pos 1074)
     (le-trans (lit≤ tt) (mul-le-mul (mul-le-mul h (pow-mono l)) k))
     (near (q * 2 ^ p * by) (2 ^ 1074) (pow-pos 1074))

@@ -1,5 +1,5 @@
 -- The value of a float, from its bits, and what is read of a float that has a known value.
-use mathlib.Core.Bool.{Bool, Bool·beq, true, false, cond, _||_, true≢false}
+use mathlib.Core.Bool.{Bool, Bool·beq, true, false, cond, _||_, or-false, or-true, true≢false}
 use mathlib.Core.Path.{_≡_, refl, sym, ap, _∙_}
 use Prim.Native.Nat.{ℕ, zero, suc, _+_, _*_, _/_, _%_, _^_, _≤_, _<_, zero-le}
 use native.Mathlib.Nat.{mul-one, zero-mul, mul-zero, mul-comm, mul-right-comm, mul-pos, mul-le-mul-right, eq-of-mul-eq-mul-right}
@@ -85,28 +85,25 @@ read-within n k (fin s m e) h =
     (near (m * up e * k) d (down-pos e)))
 
 -- the comparisons with a whole limit are those of the float's own value
-limit : (x : Float) (n a k : ℕ) → a * 2 ^ k ≡ n → finite x ≡ true →
+limit : (x : Float) (n a k : ℕ) → a * 2 ^ k ≡ n →
     (Ieee.lt (fin false a (pos k)) x || Ieee.lt x (Ieee.neg (fin false a (pos k)))) ≡ outside n x
 unfolding Ieee.lt Ieee.neg outside
-limit nan n a k e h = absurd (true≢false (sym h))
-limit (inf s) n a k e h = absurd (true≢false (sym h))
-limit (fin true m d) n a k e h = rw (e, mul-one (m * up d))
-limit (fin false m d) n a k e h = rw (e, mul-one (m * up d)) (or-false (ltb (n * down d) (m * up d)))
-  where
-    or-false : (b : Bool) → (b || false) ≡ b
-    or-false true = refl
-    or-false false = refl
+limit nan n a k e = refl
+limit (inf true) n a k e = refl
+limit (inf false) n a k e = refl
+limit (fin true m d) n a k e = rw (e, mul-one (m * up d))
+limit (fin false m d) n a k e = rw (e, mul-one (m * up d)) (or-false (ltb (n * down d) (m * up d)))
 
 -- 180.0 and 90.0 by their bits
-pub limit-180 : (x : Float) → finite x ≡ true →
+pub limit-180 : (x : Float) →
     (Ieee.lt (ofBits binary64 4640537203540230144) x || Ieee.lt x (Ieee.neg (ofBits binary64 4640537203540230144))) ≡ outside 180 x
 unfolding ofBits
-limit-180 x h = limit x 180 45 2 refl h
+limit-180 x = limit x 180 45 2 refl
 
-pub limit-90 : (x : Float) → finite x ≡ true →
+pub limit-90 : (x : Float) →
     (Ieee.lt (ofBits binary64 4636033603912859648) x || Ieee.lt x (Ieee.neg (ofBits binary64 4636033603912859648))) ≡ outside 90 x
 unfolding ofBits
-limit-90 x h = limit x 90 45 1 refl h
+limit-90 x = limit x 90 45 1 refl
 
 -- 0 times a float is 0 where the float is finite, and a NaN elsewhere
 is-zero : (y : Float) (s : Bool) (c : ℕ) → 0 < c → HasValue y s 0 c → Ieee.eq y (fin false 0 (pos 0)) ≡ true
@@ -116,10 +113,6 @@ is-zero (inf t) s c h v = absurd v
 is-zero (fin t m e) s c h v =
     let z : m * up e ≡ 0 = eq-of-mul-eq-mul-right c h (m * up e) 0 (v .1 ∙ zero-mul (down e) ∙ sym (zero-mul c)) in
     rw (z, zero-mul (down e)) (or-true (Bool·beq t false))
-  where
-    or-true : (b : Bool) → (b || true) ≡ true
-    or-true true = refl
-    or-true false = refl
 
 pub zero-times : (x : Float) → Ieee.eq (Ieee.mul binary64 x (ofBits binary64 0)) (ofBits binary64 0) ≡ finite x
 unfolding Ieee.mul Ieee.eq ofBits

@@ -10,7 +10,6 @@ use lib.IntN.{ℤ, natAbs}
 use lib.Ieee.{Float}
 use mir.Syntax.{w32}
 use mir.Val.{toZ, ofZ}
-use Rattle.whole.specs.Signed.{onSize}
 use Rattle.whole.proofs.Signs.{natAbs-on, on-same, back}
 use Rattle.projection.specs.declared.table.Row.{Row}
 use Rattle.projection.specs.Angle.{N, H, outside}
@@ -24,7 +23,8 @@ use Rattle.projection.proofs.Orders.{Passes, forward-given as numbers-given, in
 use Rattle.projection.proofs.Judged.{not-false}
 use Rattle.projection.proofs.Rows.{columns}
 use Rattle.projection.proofs.Found.{pole-small, found-small}
-use Rattle.degrees.specs.Reading.{centiseconds, units}
+use Rattle.degrees.specs.Held.{most, held}
+use Rattle.degrees.specs.Reading.{perDegree, centiseconds, units}
 use Rattle.degrees.specs.Refusal.{badCentral, badLongitude, badLatitude}
 use Rattle.degrees.specs.Answer.{onGiven, writtenPlace, writtenPosition, forwardOf, inverseOf}
 use Rattle.degrees.proofs.Floats.{read-within}
@@ -32,10 +32,10 @@ use Rattle.degrees.proofs.Orders.{Finite, forward-given, inverse-row}
 
 -- an angle within the limit of its float is within the limit of its number
 pub within-180 : (x : Float) → Passes (badCentral x) → natAbs (centiseconds x) ≤ N
-within-180 x h = omega (arith, read-within 180 360000 x h)
+within-180 x h = omega (arith, read-within 180 perDegree x h)
 
 pub within-90 : (x : Float) → Passes (badLatitude x) → natAbs (centiseconds x) ≤ H
-within-90 x h = omega (arith, read-within 90 360000 x h)
+within-90 x h = omega (arith, read-within 90 perDegree x h)
 
 pub angle-back : (x : Float) {z : ℤ} → natAbs (centiseconds x) ≤ N → z ≡ centiseconds x → toZ w32 (ofZ w32 z) ≡ centiseconds x
 angle-back x h e = ap (λ (z : ℤ). toZ w32 (ofZ w32 z)) e ∙ back w32 (centiseconds x) (omega arith)
@@ -71,22 +71,19 @@ inverse-numbers kind c x y k h i =
     ∙ on-unless writtenPosition (rowOrder r (units x) (units y)) (positionOf r (centiseconds c) (units x) (units y))
     ∙ inverse-row kind c x y k h i
 
--- what the code holds of a place, and that no row's answer shows it
-abbrev pub held : ℤ → ℤ
-held z = onSize (min 2147483647) z
-
+-- what the code holds of a place: no row's answer shows it
 pub held-back : (x : ℤ) {z : ℤ} → z ≡ held x → toZ w32 (ofZ w32 z) ≡ held x
-held-back x e = ap (λ (z : ℤ). toZ w32 (ofZ w32 z)) e ∙ back w32 (held x) (omega (arith, natAbs-on (min 2147483647) x))
+held-back x e = ap (λ (z : ℤ). toZ w32 (ofZ w32 z)) e ∙ back w32 (held x) (omega (arith, natAbs-on (min most) x))
 
 held-same : (n : ℕ) (z : ℤ) → n < 5 * N → outside n z ≡ false → held z ≡ z
-held-same n z h e = on-same (min 2147483647) z (omega (arith, ltb-false n (natAbs z) e))
+held-same n z h e = on-same (min most) z (omega (arith, ltb-false n (natAbs z) e))
 
 held-outside : (n : ℕ) (z : ℤ) → n < 5 * N → outside n (held z) ≡ outside n z
-held-outside n z h = rw (natAbs-on (min 2147483647) z) (go (outside n z) refl)
+held-outside n z h = rw (natAbs-on (min most) z) (go (outside n z) refl)
   where
-    go : (b : Bool) → outside n z ≡ b → ltb n (min 2147483647 (natAbs z)) ≡ b
-    go true e = lt-ltb n (min 2147483647 (natAbs z)) (omega (arith, ltb-true n (natAbs z) e))
-    go false e = le-ltb n (min 2147483647 (natAbs z)) (omega (arith, ltb-false n (natAbs z) e))
+    go : (b : Bool) → outside n z ≡ b → ltb n (min most (natAbs z)) ≡ b
+    go true e = lt-ltb n (min most (natAbs z)) (omega (arith, ltb-true n (natAbs z) e))
+    go false e = le-ltb n (min most (natAbs z)) (omega (arith, ltb-false n (natAbs z) e))
 
 row-held : (r : Row) → Columns r → (c x y : ℤ) → onRow r c (held x) (held y) ≡ onRow r c x y
 row-held r cols c x y = at-y (outside (height r H) y) refl

@@ -1,17 +1,18 @@
 -- A float with its sign turned is judged as it was, and read as the number turned.
-use mathlib.Core.Bool.{Bool, Bool·beq, true, false, not, _&&_, _||_}
+use mathlib.Core.Bool.{Bool, Bool·beq, true, false, _&&_, _||_}
 use mathlib.Core.Path.{_≡_, refl, sym, _∙_}
 use Prim.Native.Nat.{ℕ, _*_}
 use native.Mathlib.Nat.{zero-mul, mul-one}
 use borrow.Author.Tests.{eqb-true}
 use lib.Dec.{eqb}
-use lib.IntN.{pos, negℤ, negℤ-negℤ}
+use lib.IntN.{pos, negℤ}
 use lib.Ieee as Ieee
 use lib.Ieee.{Float, nan, inf, fin, binary64, up, down, neg, ofInt, round}
 use lib.Ieee.Scale.{finite}
 use Rattle.whole.specs.Nearest.{nearest}
 use Rattle.whole.specs.Signed.{withSign}
 use Rattle.whole.proofs.Rounding.{nearest-zero}
+use Rattle.whole.proofs.Signs.{sign-turned}
 use Rattle.degrees.specs.Reading.{readOf, outside}
 
 pub finite-neg : (x : Float) → finite (neg x) ≡ finite x
@@ -25,10 +26,6 @@ unfolding neg outside
 outside-neg n nan = refl
 outside-neg n (inf s) = refl
 outside-neg n (fin s m e) = refl
-
-sign-turned : (s : Bool) (n : ℕ) → withSign (not s) n ≡ negℤ (withSign s n)
-sign-turned true n = sym (negℤ-negℤ (pos n))
-sign-turned false n = refl
 
 pub read-neg : (k : ℕ) (x : Float) → readOf k (neg x) ≡ negℤ (readOf k x)
 unfolding neg readOf

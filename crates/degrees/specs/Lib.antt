@@ -2,3 +2,4 @@ pub mod Reading
 pub mod Writing
 pub mod Refusal
 pub mod Answer
+pub mod Held

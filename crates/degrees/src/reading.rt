@@ -6,9 +6,9 @@ ghost use lib.IntN.{natAbs};
 ghost use lib.Ieee.{binary64, ofBits, lt, neg};
 ghost use lib.Ieee.Scale.{finite as finiteOf};
 ghost use Rattle.whole.specs.Nearest.{nearest as nearestOf};
-ghost use Rattle.whole.specs.Signed.{onSize};
 ghost use Rattle.projection.specs.Angle.{N};
-ghost use Rattle.degrees.specs.Reading.{readOf, centiseconds as centisecondsOf, units as unitsOf};
+ghost use Rattle.degrees.specs.Reading.{readOf, perDegree, centiseconds as centisecondsOf, units as unitsOf};
+ghost use Rattle.degrees.specs.Held.{most, held};
 use whole::Signed;
 use whole::nearest;
 
@@ -64,15 +64,15 @@ pub(crate) fn centiseconds(x: f64) -> i32
 // A coordinate of a place as map units.
 pub(crate) fn units(x: f64) -> i32
     requires { ⌜ finiteOf x ≡ true ⌝ }
-    ensures { λ r. ⌜ r ≡ onSize (min 2147483647) (unitsOf x) ⌝ }
+    ensures { λ r. ⌜ r ≡ held (unitsOf x) ⌝ }
 {
     read(x, 1)
 }
 
 // The whole number nearest to x times `by`, MOST at most either way.
 fn read(x: f64, by: u64) -> i32
-    requires { ⌜ finiteOf x ≡ true ⌝ ∗ ⌜ 0 < by ⌝ ∗ ⌜ by ≤ 360000 ⌝ }
-    ensures { λ r. ⌜ r ≡ onSize (min 2147483647) (readOf by x) ⌝ }
+    requires { ⌜ finiteOf x ≡ true ⌝ ∗ ⌜ 0 < by ⌝ ∗ ⌜ by ≤ perDegree ⌝ }
+    ensures { λ r. ⌜ r ≡ held (readOf by x) ⌝ }
 {
     let bits = f64::to_bits(x);
     let number = Signed {
@@ -84,8 +84,8 @@ fn read(x: f64, by: u64) -> i32
 
 // The size of what is read from a pattern of bits.
 fn size_of(bits: u64, by: u64) -> u32
-    requires { ⌜ finiteOf (ofBits binary64 bits) ≡ true ⌝ ∗ ⌜ 0 < by ⌝ ∗ ⌜ by ≤ 360000 ⌝ }
-    ensures { λ r. ⌜ r ≡ min 2147483647 (natAbs (readOf by (ofBits binary64 bits))) ⌝ }
+    requires { ⌜ finiteOf (ofBits binary64 bits) ≡ true ⌝ ∗ ⌜ 0 < by ⌝ ∗ ⌜ by ≤ perDegree ⌝ }
+    ensures { λ r. ⌜ r ≡ min most (natAbs (readOf by (ofBits binary64 bits))) ⌝ }
 {
     let exponent = bits % SIGN / LEADING;
     let digits = bits % LEADING;
@@ -98,8 +98,8 @@ fn size_of(bits: u64, by: u64) -> u32
 
 // The whole number nearest to digits * 2^power / 2^1074 times `by`, MOST at most.
 fn scaled(digits: u64, power: u64, by: u64) -> u32
-    requires { ⌜ digits < 2 ^ 53 ⌝ ∗ ⌜ (0 < power → 2 ^ 52 ≤ digits) ⌝ ∗ ⌜ 0 < by ⌝ ∗ ⌜ by ≤ 360000 ⌝ }
-    ensures { λ r. ⌜ r ≡ min 2147483647 (nearestOf (digits * 2 ^ power * by) (2 ^ 1074)) ⌝ }
+    requires { ⌜ digits < 2 ^ 53 ⌝ ∗ ⌜ (0 < power → 2 ^ 52 ≤ digits) ⌝ ∗ ⌜ 0 < by ⌝ ∗ ⌜ by ≤ perDegree ⌝ }
+    ensures { λ r. ⌜ r ≡ min most (nearestOf (digits * 2 ^ power * by) (2 ^ 1074)) ⌝ }
 {
     if power > 1061 {
         return MOST;
@@ -115,7 +115,7 @@ fn scaled(digits: u64, power: u64, by: u64) -> u32
 // Twice the number of halves in digits * by / 2^(13 + drop), and 1 more where anything is left over: `nearest` decides a
 // half, so it must see whether there is more than that.
 fn quarters(digits: u64, drop: u64, by: u64) -> u64
-    requires { ⌜ digits < 2 ^ 53 ⌝ ∗ ⌜ drop < 64 ⌝ ∗ ⌜ by ≤ 360000 ⌝ }
+    requires { ⌜ digits < 2 ^ 53 ⌝ ∗ ⌜ drop < 64 ⌝ ∗ ⌜ by ≤ perDegree ⌝ }
     ensures { λ r. ⌜ r ≡ 2 * (digits * by / (2 ^ drop * 4096)) + min 1 (digits * by % (2 ^ drop * 4096)) ⌝ }
 {
     let low = digits % PART * by;

@@ -34,7 +34,11 @@ pub(crate) fn written_place(answer: Answer) -> FloatAnswer
     ensures { λ r. ⌜ meaning r ≡ onGiven writtenPlace (wholeMeaning answer) ⌝ }
 {
     match answer {
-        Answer::Pair(x, y) => FloatAnswer::Pair(x as f64, y as f64),
+        Answer::Pair(x, y) => {
+            let east = x as f64;
+            let north = y as f64;
+            FloatAnswer::Pair(east, north)
+        }
         Answer::Refused(n) => FloatAnswer::Refused(n),
     }
 }

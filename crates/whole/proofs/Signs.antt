@@ -1,6 +1,6 @@
 -- Signed numbers by their positive and negative parts, so that a linear fact of ℤ is one of ℕ.
 use mathlib.Core.Path.{_≡_, refl, sym, ap, _∙_}
-use mathlib.Core.Bool.{Bool, true, false, cond}
+use mathlib.Core.Bool.{Bool, true, false, not, cond}
 use Prim.Native.Nat.{ℕ, zero, suc, _+_, _-_, _*_, _≤_, _<_, _^_, min}
 use native.Mathlib.Nat.{zero-mul, le-refl, lt-of-le-of-lt}
 use native.Mathlib.Omega.{arith}
@@ -31,6 +31,10 @@ natAbs-sign false n = refl
 
 pub natAbs-join : (s : Signed) → natAbs (joinOf s) ≡ s .size
 natAbs-join s = natAbs-sign (s .negative) (s .size)
+
+pub sign-turned : (b : Bool) (n : ℕ) → withSign (not b) n ≡ negℤ (withSign b n)
+sign-turned false n = refl
+sign-turned true n = sym (negℤ-negℤ (pos n))
 
 -- what a number's parts are
 pub record Parts (z : ℤ) : Type 0 where

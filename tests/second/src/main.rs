@@ -41,10 +41,10 @@ fn main() -> io::Result<()> {
 
 /// A line of answer for each line; what follows the last line's end is a line if it has a byte.
 fn answers(text: &[u8]) -> String {
-    let text = text.strip_suffix(b"\n").unwrap_or(text);
     if text.is_empty() {
         return String::new();
     }
+    let text = text.strip_suffix(b"\n").unwrap_or(text);
     let lines = text
         .split(|byte| *byte == b'\n')
         .map(String::from_utf8_lossy);

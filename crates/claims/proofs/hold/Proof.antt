@@ -102,8 +102,8 @@ demands =
       laws-of-floats = by-numbers laws-of-numbers floats floats-by-numbers;
     }
 
-degrees-back : (z : ℤ) → natAbs z ≤ N → DegreesBack z
-degrees-back z h =
+degrees-written : (z : ℤ) → natAbs z ≤ N → DegreesBack z
+degrees-written z h =
     let s = degrees-stand z (omega arith) in
     record { is-finite = s .is-finite; within-180 = s .stays 180 h; within-90 = s .stays 90; same = s .reads }
 
@@ -116,7 +116,7 @@ written : Written
 unfolding degreesOf unitsOf ofInt div round
 written =
     record {
-      degrees = degrees-back;
+      degrees = degrees-written;
       places = λ z h. record { exact = units-exact z h; same = units-stand z (omega (arith, h)) .reads };
       zero-degrees = refl;
       zero-units = refl;

@@ -47,22 +47,19 @@ all-good c =
     (sym (c .before .all-finite .ensures) ∙ not-false (c .before .all-finite .result) (c .if2 .left))
 
 central-test : (c : tie.After-outside) → c .outside .result ≡ badCentral (start2 (c .before) .args .central) .applies
-central-test c = c .outside .ensures ∙ limit-180 (start2 (c .before) .args .central) (all-good (c .before) .first)
+central-test c = c .outside .ensures ∙ limit-180 (start2 (c .before) .args .central)
 
 central-good : (c : tie.Else3) → Passes (badCentral (start3 c .args .central))
 central-good c = sym (central-test (c .before)) ∙ c .if3 .left
 
 longitude-test : (c : tie.After-outside2) → c .outside2 .result ≡ badLongitude (start3 (c .before) .args .at .longitude) .applies
-longitude-test c =
-    c .outside2 .ensures ∙ limit-180 (start3 (c .before) .args .at .longitude) (all-good (c .before .before .before) .second)
+longitude-test c = c .outside2 .ensures ∙ limit-180 (start3 (c .before) .args .at .longitude)
 
 longitude-good : (c : tie.Else4) → Passes (badLongitude (start4 c .args .at .longitude))
 longitude-good c = sym (longitude-test (c .before)) ∙ c .if4 .left
 
 latitude-test : (c : tie.After-outside3) → c .outside3 .result ≡ badLatitude (start4 (c .before) .args .at .latitude) .applies
-latitude-test c =
-    let c2 = c .before .before .before .before .before in
-    c .outside3 .ensures ∙ limit-90 (start4 (c .before) .args .at .latitude) (all-good c2 .third)
+latitude-test c = c .outside3 .ensures ∙ limit-90 (start4 (c .before) .args .at .latitude)
 
 latitude-good : (c : tie.Else5) → Passes (badLatitude (start5 c .args .at .latitude))
 latitude-good c = sym (latitude-test (c .before)) ∙ c .if5 .left

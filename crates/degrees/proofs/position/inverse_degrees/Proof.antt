@@ -10,11 +10,12 @@ use Rattle.projection.specs.Refusal.{badKind}
 use Rattle.projection.specs.Answer.{meaning, inverseOf as inverseNumbers}
 use Rattle.projection.proofs.Orders.{Passes}
 use Rattle.degrees.specs.Reading.{centiseconds, units}
+use Rattle.degrees.specs.Held.{held}
 use Rattle.degrees.specs.Refusal.{badCentral}
 use Rattle.degrees.specs.Answer.{onGiven, writtenPosition}
 use Rattle.degrees.proofs.Floats.{limit-180}
 use Rattle.degrees.proofs.Orders.{Finite, all-finite, inverse-1, inverse-2, inverse-3}
-use Rattle.degrees.proofs.Numbers.{within-180, angle-back, held, held-back, inverse-numbers, inverse-held}
+use Rattle.degrees.proofs.Numbers.{within-180, angle-back, held-back, inverse-numbers, inverse-held}
 use Rattle.degrees.proofs.position.inverse_degrees.Statement.{statement}
 use Rattle.degrees.proofs.position.inverse_degrees.Tie as tie
 
@@ -41,7 +42,7 @@ all-good c =
     all-finite (s .central) (s .x) (s .y) (sym (c .before .all-finite .ensures) ∙ not-false (c .before .all-finite .result) (c .if2 .left))
 
 central-test : (c : tie.After-outside) → c .outside .result ≡ badCentral (start2 (c .before) .args .central) .applies
-central-test c = c .outside .ensures ∙ limit-180 (start2 (c .before) .args .central) (all-good (c .before) .first)
+central-test c = c .outside .ensures ∙ limit-180 (start2 (c .before) .args .central)
 
 central-good : (c : tie.Else3) → Passes (badCentral (start3 c .args .central))
 central-good c = sym (central-test (c .before)) ∙ c .if3 .left

@@ -4,8 +4,9 @@ use Prim.Native.Nat.{min}
 use native.Mathlib.Omega.{arith}
 use borrow.Author.Needs.{needs}
 use Rattle.whole.proofs.Signs.{on-same}
+use Rattle.degrees.specs.Held.{most, held}
 use Rattle.degrees.specs.Reading.{centiseconds}
-use Rattle.degrees.proofs.Numbers.{angle-back, held}
+use Rattle.degrees.proofs.Numbers.{angle-back}
 use Rattle.degrees.proofs.reading.centiseconds.Statement.{statement}
 use Rattle.degrees.proofs.reading.centiseconds.Tie as tie
 
@@ -20,7 +21,7 @@ returns : tie.Need-returns
 returns c =
     let x = c .before .args .x in
     let l = c .before .pre .1 in
-    angle-back x l (read-is c ∙ on-same (min 2147483647) (centiseconds x) (omega arith))
+    angle-back x l (read-is c ∙ on-same (min most) (centiseconds x) (omega arith))
 
 pub centiseconds-spec : {M : Type 1} → statement M
 centiseconds-spec = tie.close (tie.spec read-requires returns)

@@ -1,5 +1,6 @@
 -- `degrees::reading::quarters` meets its contract: the two parts are the product, and nothing needs more than 64 bits.
-use Prim.Native.Nat.{ℕ, _+_, _*_, _/_, _%_, _^_, _<_}
+use mathlib.Core.Path.{_≡_}
+use Prim.Native.Nat.{ℕ, _+_, _*_, _/_, _%_, _^_, _<_, min}
 use native.Mathlib.Nat.{mod-le, div-le-self}
 use native.Mathlib.Omega.{arith}
 use borrow.Author.Needs.{needs}
@@ -55,23 +56,22 @@ mul-result-2 c = omega (arith, halves-fit (c .before))
 add-result : tie.Need-add-result
 add-result c = omega (arith, halves-fit (c .before))
 
+-- what is to be returned, by what was worked out
+counted : (c : tie.Start) →
+    let n = c .args .digits * c .args .by in
+    let j = 2 ^ c .args .drop * 4096 in
+    2 * (n / j) + min 1 (n % j) ≡ 2 * (high c / unit c) + min 1 (high c % unit c + c .args .digits % 4096 * c .args .by % 4096)
+counted c =
+    let n = c .args .digits * c .args .by in
+    let d = c .args .drop in
+    rw (left-is n d, ← halves-are n d, ← high-is (c .args .digits) (c .args .by), unit-is d (c .pre .1 .0))
+    (omega (arith, low-is (c .args .digits) (c .args .by)))
+
 returns : tie.Need-returns
-returns c =
-    let s = c .before in
-    let n = s .args .digits * s .args .by in
-    let u = unit-is (s .args .drop) (s .pre .1 .0) in
-    let l = low-is (s .args .digits) (s .args .by) in
-    rw (left-is n (s .args .drop), ← halves-are n (s .args .drop), ← high-is (s .args .digits) (s .args .by), u)
-    (omega (arith, rw u at (c .if1 .taken)))
+returns c = omega (arith, counted (c .before), c .if1 .taken)
 
 returns-2 : tie.Need-returns-2
-returns-2 c =
-    let s = c .before in
-    let n = s .args .digits * s .args .by in
-    let u = unit-is (s .args .drop) (s .pre .1 .0) in
-    let l = low-is (s .args .digits) (s .args .by) in
-    rw (left-is n (s .args .drop), ← halves-are n (s .args .drop), ← high-is (s .args .digits) (s .args .by), u)
-    (omega (arith, rw u at (c .if1 .left)))
+returns-2 c = omega (arith, counted (c .before), c .if1 .left)
 
 pub quarters-spec : {M : Type 1} → statement M
 quarters-spec =

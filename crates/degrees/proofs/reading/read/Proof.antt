@@ -10,8 +10,9 @@ use lib.Ieee.{Float, nan, inf, fin, binary64, isNan, toBits, ofBits}
 use lib.Ieee.Bits.{ofBits-toBits}
 use lib.Ieee.Scale.{finite}
 use Rattle.whole.specs.declared.Signed.{Signed}
-use Rattle.whole.specs.Signed.{joinOf, withSign, onSize}
+use Rattle.whole.specs.Signed.{joinOf, withSign}
 use Rattle.whole.proofs.Signs.{on-sign, join-wide, join-fits, join-back}
+use Rattle.degrees.specs.Held.{most, held}
 use Rattle.degrees.specs.Reading.{readOf}
 use Rattle.degrees.proofs.Floats.{read-bits}
 use Rattle.degrees.proofs.reading.read.Statement.{statement}
@@ -36,15 +37,15 @@ number c = record { negative = leb (2 ^ 63) (toBits binary64 (c .before .args .x
 size-low : (c : tie.After-size-of) → c .size-of .result < 2 ^ 31
 size-low c = omega (arith, c .size-of .ensures)
 
-number-is : (c : tie.After-size-of) → joinOf (number c) ≡ onSize (min 2147483647) (readOf (c .before .args .by) (c .before .args .x))
+number-is : (c : tie.After-size-of) → joinOf (number c) ≡ held (readOf (c .before .args .by) (c .before .args .x))
 number-is c =
     let a = c .before .args in
     let b = toBits binary64 (a .x) in
     let n = natAbs (readOf (a .by) (ofBits binary64 b)) in
     ap (withSign (leb (2 ^ 63) b)) (c .size-of .ensures)
-    ∙ sym (on-sign (min 2147483647) refl (leb (2 ^ 63) b) n)
-    ∙ ap (onSize (min 2147483647)) (sym (read-bits (a .by) b (finite-bits (c .before))))
-    ∙ ap (λ (x : Float). onSize (min 2147483647) (readOf (a .by) x)) (bits-back (c .before))
+    ∙ sym (on-sign (min most) refl (leb (2 ^ 63) b) n)
+    ∙ ap held (sym (read-bits (a .by) b (finite-bits (c .before))))
+    ∙ ap (λ (x : Float). held (readOf (a .by) x)) (bits-back (c .before))
 
 float-to-bits-bits : tie.Need-float-to-bits-bits
 float-to-bits-bits c = no-nan (c .args .x) (c .pre .0)

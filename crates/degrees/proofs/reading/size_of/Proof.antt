@@ -6,6 +6,7 @@ use borrow.Author.Needs.{needs}
 use lib.Dec.{leb}
 use lib.Ieee.{binary64, ofBits}
 use lib.Pow.{pow-pos}
+use Rattle.degrees.specs.Held.{most}
 use Rattle.degrees.proofs.Floats.{size-read, subnormal, normal}
 use Rattle.degrees.proofs.reading.size_of.Statement.{statement}
 use Rattle.degrees.proofs.reading.size_of.Tie as tie
@@ -27,7 +28,7 @@ returns c =
     let s = c .before .before .args in
     let b = s .bits in
     c .scaled .ensures
-    ∙ ap (min 2147483647)
+    ∙ ap (min most)
     (sym (size-read (s .by) (ofBits binary64 b) (leb (2 ^ 63) b) (b % 2 ^ 52 * 2 ^ 0) (2 ^ 1074) (pow-pos 1074)
     (subnormal b (c .before .if1 .taken))))
 
@@ -37,7 +38,7 @@ returns-2 c =
     let b = s .args .bits in
     let k = b % 2 ^ 63 / 2 ^ 52 - 1 in
     c .scaled2 .ensures
-    ∙ ap (min 2147483647)
+    ∙ ap (min most)
     (sym (size-read (s .args .by) (ofBits binary64 b) (leb (2 ^ 63) b) ((2 ^ 52 + b % 2 ^ 52) * 2 ^ k) (2 ^ 1074) (pow-pos 1074)
     (normal b k (omega (arith, c .before .if1 .left)) (s .pre .0))))
 

@@ -17,18 +17,18 @@ int-to-float-north : tie.Need-int-to-float-north
 int-to-float-north c = search needs
 
 -- the code's 360000.0
-per-degree : ofBits binary64 4689928365371555840 ≡ ofInt binary64 (pos 360000)
+literal-is : ofBits binary64 4689928365371555840 ≡ ofInt binary64 (pos 360000)
 unfolding ofBits ofInt round
-per-degree = refl
+literal-is = refl
 
-divided : (z : ℤ) → SFits w32 z → div binary64 (ofInt binary64 (toZ w32 (ofZ w32 z))) (ofBits binary64 4689928365371555840) ≡ degreesOf z
+one : (z : ℤ) → SFits w32 z → div binary64 (ofInt binary64 (toZ w32 (ofZ w32 z))) (ofBits binary64 4689928365371555840) ≡ degreesOf z
 unfolding degreesOf
-divided z f = rw (toZ-ofZ f, per-degree)
+one z f = rw (toZ-ofZ f, literal-is)
 
 returns : tie.Need-returns
 returns c =
     let s = c .before .before in
-    (divided (s .args .longitude) (s .fits .longitude), divided (s .args .latitude) (s .fits .latitude))
+    (one (s .args .longitude) (s .fits .longitude), one (s .args .latitude) (s .fits .latitude))
 
 pub from-centiseconds-spec : {M : Type 1} → statement M
 from-centiseconds-spec = tie.close (tie.spec int-to-float-east int-to-float-north returns)
