@@ -1,12 +1,12 @@
 -- A way whose answers are those of numbers at the numbers read, and whose answers read back as themselves, has demand 3.
 use mathlib.Core.Logic.{_↔_}
 use mathlib.Core.Path.{_≡_, sym, subst, _∙_}
-use Prim.Native.Nat.{ℕ, _≤_, _<_}
+use Prim.Native.Nat.{ℕ, _≤_}
 use lib.IntN.{ℤ, negℤ, natAbs}
 use Rattle.projection.specs.Angle.{N}
 use Rattle.projection.specs.Refusal.{Outcome, refused, given}
 use Rattle.projection.specs.Answer.{forwardOf, inverseOf}
-use Rattle.claims.specs.Demand3.{Way, numbers, SameAt, Alike, TurnedX, TurnedY, width, Returns, Shares, Resends, Demand3}
+use Rattle.claims.specs.Demand3.{Way, numbers, SameAt, Alike, TurnedX, TurnedY, Returns, Shares, Resends, Demand3}
 use Rattle.claims.proofs.Accepted.{position}
 
 -- an outcome gives two things that stand for two numbers
@@ -118,13 +118,11 @@ module _ (d : Demand3 numbers) (w : Way) (b : ByNumbers w) where
       let m = b .meridian z (position kind (w .centiseconds c) z (w .centiseconds f) p e .0 .l-le) in
       (m .0, m .2, b .takes kind c (m .0) f p h (m .1) k (rw (m .2) e))
 
-  sharing : (kind : ℕ) (c l f : w .Angle) (p : w .Coordinate × w .Coordinate) → w .forward kind c l f ≡ given p →
-      width w kind f < N → Shares w kind c f
-  sharing kind c l f p e h =
-      let s = b .sent kind c l f (p .0) (p .1) e in
-      let r = d .sharing kind (w .centiseconds c) (w .centiseconds l) (w .centiseconds f) (w .units (p .0), w .units (p .1)) (s .on-numbers) h in
-      let i = shared kind c f (r .first) (r .place₁) (s .central) (s .latitude) (r .accepted₁) in
-      let j = shared kind c f (r .second) (r .place₂) (s .central) (s .latitude) (r .accepted₂) in
+  shares : (kind : ℕ) (c f : w .Angle) → b .accepts .Meridian c → b .accepts .Latitude f →
+      Shares numbers kind (w .centiseconds c) (w .centiseconds f) → Shares w kind c f
+  shares kind c f h k r =
+      let i = shared kind c f (r .first) (r .place₁) h k (r .accepted₁) in
+      let j = shared kind c f (r .second) (r .place₂) h k (r .accepted₂) in
       record {
         first = i .0;
         second = j .0;
@@ -143,6 +141,10 @@ module _ (d : Demand3 numbers) (w : Way) (b : ByNumbers w) where
         turning-x = turning-x;
         turning-y = turning-y;
         forward-back = forward-back;
-        sharing = sharing;
+        sharing = λ kind c l f p e h.
+            let s = b .sent kind c l f (p .0) (p .1) e in
+            shares kind c f (s .central) (s .latitude)
+            (d .sharing kind (w .centiseconds c) (w .centiseconds l) (w .centiseconds f) (w .units (p .0), w .units (p .1))
+            (s .on-numbers) h);
         back-forward = back-forward;
       }
