@@ -31,7 +31,7 @@ abbrev pub inverseOrder : ℕ → Float → Float → Float → List Refusal
 inverseOrder kind central x y =
     badKind kind ∷ badFloat central ∷ badFloat x ∷ badFloat y ∷ badCentral central ∷ rowOrder (rowOf kind) (units x) (units y)
 
--- an answer with what it gives exchanged, and a refusal as it is
+-- f of what is given; a refusal stays
 abbrev pub onGiven : {A B : Type 0} → (A → B) → Outcome A → Outcome B
 onGiven f (given a) = given (f a)
 onGiven f (refused n) = refused n

@@ -1,5 +1,5 @@
--- How a float is read: the whole number nearest to a multiple of its exact value, which is m * up e / down e with the
--- sign s.
+-- How a float is read: the whole number nearest to a multiple of its exact value, which is m * 2 ^ e with the sign s;
+-- 2 ^ e is up e / down e.
 use mathlib.Core.Bool.{Bool, true, false}
 use Prim.Native.Nat.{ℕ, _*_}
 use lib.Dec.{ltb}
@@ -14,10 +14,11 @@ readOf k nan = pos 0
 readOf k (inf s) = pos 0
 readOf k (fin s m e) = withSign s (nearest (m * up e * k) (down e))
 
--- degrees as hundredths of an arcsecond, and a coordinate of a place as map units
+-- hundredths of an arcsecond in a degree
 abbrev pub perDegree : ℕ
 perDegree = 360000
 
+-- degrees as hundredths of an arcsecond, and a coordinate of a place as map units
 abbrev pub centiseconds : Float → ℤ
 centiseconds x = readOf perDegree x
 

@@ -7,6 +7,6 @@ use Rattle.degrees.specs.Reading.{perDegree}
 unfoldable pub degreesOf : ℤ → Float
 degreesOf z = div binary64 (ofInt binary64 z) (ofInt binary64 (pos perDegree))
 
--- map units as they are
+-- map units, exactly
 unfoldable pub unitsOf : ℤ → Float
 unitsOf z = ofInt binary64 z
