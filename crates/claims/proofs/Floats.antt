@@ -24,7 +24,8 @@ use Rattle.degrees.specs.Answer.{onGiven, writtenPlace, writtenPosition, forwar
 use Rattle.degrees.proofs.Turned.{finite-neg, outside-neg, read-neg, read-zero}
 use Rattle.degrees.proofs.Rounded.{Stands}
 use Rattle.degrees.proofs.Written.{degrees-stand, units-stand}
-use Rattle.degrees.proofs.Numbers.{within-180, within-90, forward-numbers, inverse-numbers}
+use Rattle.degrees.proofs.Numbers.{forward-numbers, inverse-numbers}
+use Rattle.degrees.proofs.Floats.{read-within}
 use Rattle.claims.specs.Demand3.{TurnedFloat, floats}
 use Rattle.claims.proofs.Refusals.{unless-given, same-refusals}
 use Rattle.claims.proofs.Accepted.{kind-false, Position, position, accepts, Place, place, admits}
@@ -76,25 +77,26 @@ position-small kind c x y l f e =
     let p = position kind c l f (r .x', r .y') (r .accepted) .0 in
     (p .l-le, p .f-le)
 
--- what floats themselves accept
+-- what floats themselves accept: a number within a limit, or any number
+abbrev Within : ℕ → Float → Type 0
+Within n x = (finite x ≡ true) × (outside n x ≡ false)
+
 abbrev accepted : Accepts floats
-accepted =
-    record {
-      Meridian = λ (x : Float). (finite x ≡ true) × (outside 180 x ≡ false);
-      Latitude = λ (x : Float). (finite x ≡ true) × (outside 90 x ≡ false);
-      Place = λ (x : Float). finite x ≡ true;
-    }
+accepted = record { Meridian = Within 180; Latitude = Within 90; Place = λ (x : Float). finite x ≡ true }
 
 -- the numbers of a place or a position, written
 written-place : (kind : ℕ) (c l f x y : ℤ) → forwardOf kind c l f ≡ given (x, y) → Stands 1 x (unitsOf x) × Stands 1 y (unitsOf y)
 written-place kind c l f x y e =
     let s = place-small kind c l f x y e in (units-stand x (omega (arith, s .0)), units-stand y (omega (arith, s .1)))
 
-written-meridian : (z : ℤ) → natAbs z ≤ N → accepted .Meridian (degreesOf z) × (centiseconds (degreesOf z) ≡ z)
-written-meridian z h = let s = degrees-stand z (omega arith) in ((s .is-finite, s .stays 180 h), s .reads)
+written-angle : (n : ℕ) (z : ℤ) → natAbs z ≤ n * perDegree → n ≤ 180 → Within n (degreesOf z) × (centiseconds (degreesOf z) ≡ z)
+written-angle n z h l = let s = degrees-stand z (omega arith) in ((s .is-finite, s .stays n h), s .reads)
 
-written-latitude : (z : ℤ) → natAbs z ≤ H → accepted .Latitude (degreesOf z) × (centiseconds (degreesOf z) ≡ z)
-written-latitude z h = let s = degrees-stand z (omega arith) in ((s .is-finite, s .stays 90 h), s .reads)
+written-meridian : (z : ℤ) → natAbs z ≤ N → Within 180 (degreesOf z) × (centiseconds (degreesOf z) ≡ z)
+written-meridian z h = written-angle 180 z h (omega arith)
+
+written-latitude : (z : ℤ) → natAbs z ≤ H → Within 90 (degreesOf z) × (centiseconds (degreesOf z) ≡ z)
+written-latitude z h = written-angle 90 z h (omega arith)
 
 sent : (kind : ℕ) (c l f x y : Float) → forwardDegrees kind c l f ≡ given (x, y) → Sent floats accepted kind c l f x y
 unfolding forwardDegrees
@@ -106,9 +108,9 @@ sent kind c l f x y e =
     let q : Position kind (centiseconds c) (centiseconds l) (centiseconds f) =
     record {
       kind-good = Judged.not-false (isKind kind) (g .0 .0);
-      c-le = within-180 c (t .0);
-      l-le = within-180 l (t .1 .0);
-      f-le = within-90 f (t .1 .1 .0);
+      c-le = read-within 180 perDegree c (t .0);
+      l-le = read-within 180 perDegree l (t .1 .0);
+      f-le = read-within 90 perDegree f (t .1 .1 .0);
     } in
     let a = accepts kind (centiseconds c) (centiseconds l) (centiseconds f) q in
     let w = written-place kind (centiseconds c) (centiseconds l) (centiseconds f) (p .0) (p .1) a in
@@ -133,7 +135,7 @@ sent-back kind c x y l f e =
     let q : Place kind (centiseconds c) (units x) (units y) =
     record {
       kind-good = Judged.not-false (isKind kind) (g .0 .0);
-      c-le = within-180 c (t .0);
+      c-le = read-within 180 perDegree c (t .0);
       y-le = ltb-false (height r H) (natAbs (units y)) (t .1 .0);
       x-le = ltb-false (widthAt r (units y)) (natAbs (units x)) (t .1 .1 .0);
     } in

@@ -30,13 +30,7 @@ use Rattle.degrees.specs.Answer.{onGiven, writtenPlace, writtenPosition,
 use Rattle.degrees.proofs.Floats.{read-within}
 use Rattle.degrees.proofs.Orders.{Finite, forward-given, inverse-row}
 
--- an angle within the limit of its float is within the limit of its number
-pub within-180 : (x : Float) → Passes (badCentral x) → natAbs (centiseconds x) ≤ N
-within-180 x h = omega (arith, read-within 180 perDegree x h)
-
-pub within-90 : (x : Float) → Passes (badLatitude x) → natAbs (centiseconds x) ≤ H
-within-90 x h = omega (arith, read-within 90 perDegree x h)
-
+-- a longitude or a latitude is handed on in 32 bits
 pub angle-back : (x : Float) {z : ℤ} → natAbs (centiseconds x) ≤ N → z ≡ centiseconds x → toZ w32 (ofZ w32 z) ≡ centiseconds x
 angle-back x h e = ap (λ (z : ℤ). toZ w32 (ofZ w32 z)) e ∙ back w32 (centiseconds x) (omega arith)
 
@@ -46,8 +40,8 @@ pub forward-numbers : (kind : ℕ) (c l f : Float) → Passes (badKind kind) →
 forward-numbers kind c l f k h i j m =
     ap (onGiven writtenPlace)
     (sym (numbers-given kind (centiseconds c) (centiseconds l) (centiseconds f) k
-    (le-ltb N (natAbs (centiseconds c)) (within-180 c i)) (le-ltb N (natAbs (centiseconds l)) (within-180 l j))
-    (le-ltb H (natAbs (centiseconds f)) (within-90 f m))))
+    (le-ltb N (natAbs (centiseconds c)) (read-within 180 perDegree c i)) (le-ltb N (natAbs (centiseconds l)) (read-within 180 perDegree l j))
+    (le-ltb H (natAbs (centiseconds f)) (read-within 90 perDegree f m))))
     ∙ forward-given kind c l f k h i j m
 
 -- what is given after an order of refusals may be exchanged before it
@@ -67,7 +61,7 @@ unfolding onRow
 inverse-numbers kind c x y k h i =
     let r = rowOf kind in
     ap (onGiven writtenPosition)
-    (sym (numbers-row kind (centiseconds c) (units x) (units y) k (le-ltb N (natAbs (centiseconds c)) (within-180 c i))))
+    (sym (numbers-row kind (centiseconds c) (units x) (units y) k (le-ltb N (natAbs (centiseconds c)) (read-within 180 perDegree c i))))
     ∙ on-unless writtenPosition (rowOrder r (units x) (units y)) (positionOf r (centiseconds c) (units x) (units y))
     ∙ inverse-row kind c x y k h i
 

@@ -13,12 +13,12 @@ use whole::Signed;
 use whole::nearest;
 
 // A pattern of bits: the sign, 11 bits of exponent, and the 52 digits below the leading one.
-const SIGN: u64 = 9223372036854775808;
+const SIGN: u64 = 1 << 63;
 
-const LEADING: u64 = 4503599627370496;
+const LEADING: u64 = 1 << 52;
 
 // Digits are multiplied in two parts, so that no product needs more than 64 bits.
-const PART: u64 = 4096;
+const PART: u64 = 1 << 12;
 
 // The most that is read of a place. Every row ends far below it, so that no answer shows it.
 const MOST: u32 = 2147483647;
@@ -101,10 +101,12 @@ fn scaled(digits: u64, power: u64, by: u64) -> u32
     requires { ⌜ digits < 2 ^ 53 ⌝ ∗ ⌜ (0 < power → 2 ^ 52 ≤ digits) ⌝ ∗ ⌜ 0 < by ⌝ ∗ ⌜ by ≤ perDegree ⌝ }
     ensures { λ r. ⌜ r ≡ min most (nearestOf (digits * 2 ^ power * by) (2 ^ 1074)) ⌝ }
 {
+    // From here up the number is at least 2^40.
     if power > 1061 {
         return MOST;
     }
     let drop = 1061 - power;
+    // From here up it is less than a half.
     if drop >= 64 {
         return 0;
     }

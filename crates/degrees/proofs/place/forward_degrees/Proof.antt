@@ -8,12 +8,12 @@ use borrow.Author.Tests.{not-true, not-false}
 use Rattle.projection.specs.Refusal.{badKind}
 use Rattle.projection.specs.Answer.{meaning, forwardOf as forwardNumbers}
 use Rattle.projection.proofs.Orders.{Passes}
-use Rattle.degrees.specs.Reading.{centiseconds}
+use Rattle.degrees.specs.Reading.{perDegree, centiseconds}
 use Rattle.degrees.specs.Refusal.{badCentral, badLongitude, badLatitude}
 use Rattle.degrees.specs.Answer.{onGiven, writtenPlace}
-use Rattle.degrees.proofs.Floats.{limit-180, limit-90}
+use Rattle.degrees.proofs.Floats.{read-within, limit-180, limit-90}
 use Rattle.degrees.proofs.Orders.{Finite, all-finite, forward-1, forward-2, forward-3, forward-4, forward-5}
-use Rattle.degrees.proofs.Numbers.{within-180, within-90, angle-back, forward-numbers}
+use Rattle.degrees.proofs.Numbers.{angle-back, forward-numbers}
 use Rattle.degrees.proofs.place.forward_degrees.Statement.{statement}
 use Rattle.degrees.proofs.place.forward_degrees.Tie as tie
 
@@ -94,9 +94,9 @@ answered c =
     let c5 = c .before .before .before .before in
     let s = start5 c5 .args in
     let j = judged c5 in
-    let m = angle-back (s .central) (within-180 (s .central) (j .central)) (c .before .before .before .centiseconds .ensures) in
-    let l = angle-back (s .at .longitude) (within-180 (s .at .longitude) (j .longitude)) (c .before .before .centiseconds2 .ensures) in
-    let f = angle-back (s .at .latitude) (omega (arith, within-90 (s .at .latitude) (j .latitude))) (c .before .centiseconds3 .ensures) in
+    let m = angle-back (s .central) (read-within 180 perDegree (s .central) (j .central)) (c .before .before .before .centiseconds .ensures) in
+    let l = angle-back (s .at .longitude) (read-within 180 perDegree (s .at .longitude) (j .longitude)) (c .before .before .centiseconds2 .ensures) in
+    let f = angle-back (s .at .latitude) (omega (arith, read-within 90 perDegree (s .at .latitude) (j .latitude))) (c .before .centiseconds3 .ensures) in
     rw (m, l, f) at (c .forward .ensures)
 
 is-kind-requires : tie.Need-is-kind-requires
@@ -151,17 +151,17 @@ returns-5 c =
     (longitude-good c4) (sym (latitude-test (c .before)) ∙ c .if5 .taken)
 
 centiseconds-requires : tie.Need-centiseconds-requires
-centiseconds-requires c κs = (judged c .finite .first, within-180 (start5 c .args .central) (judged c .central))
+centiseconds-requires c κs = (judged c .finite .first, read-within 180 perDegree (start5 c .args .central) (judged c .central))
 
 centiseconds-requires-2 : tie.Need-centiseconds-requires-2
 centiseconds-requires-2 c κs =
-    let c5 = c .before in (judged c5 .finite .second, within-180 (start5 c5 .args .at .longitude) (judged c5 .longitude))
+    let c5 = c .before in (judged c5 .finite .second, read-within 180 perDegree (start5 c5 .args .at .longitude) (judged c5 .longitude))
 
 centiseconds-requires-3 : tie.Need-centiseconds-requires-3
 centiseconds-requires-3 c κs =
     let c5 = c .before .before in
     let x = start5 c5 .args .at .latitude in
-    (judged c5 .finite .third, omega (arith, within-90 x (judged c5 .latitude)))
+    (judged c5 .finite .third, omega (arith, read-within 90 perDegree x (judged c5 .latitude)))
 
 forward-requires : tie.Need-forward-requires
 forward-requires c κs = search needs

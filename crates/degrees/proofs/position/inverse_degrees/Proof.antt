@@ -9,13 +9,13 @@ use mir.Val.{toZ, ofZ}
 use Rattle.projection.specs.Refusal.{badKind}
 use Rattle.projection.specs.Answer.{meaning, inverseOf as inverseNumbers}
 use Rattle.projection.proofs.Orders.{Passes}
-use Rattle.degrees.specs.Reading.{centiseconds, units}
+use Rattle.degrees.specs.Reading.{perDegree, centiseconds, units}
 use Rattle.degrees.specs.Held.{held}
 use Rattle.degrees.specs.Refusal.{badCentral}
 use Rattle.degrees.specs.Answer.{onGiven, writtenPosition}
-use Rattle.degrees.proofs.Floats.{limit-180}
+use Rattle.degrees.proofs.Floats.{read-within, limit-180}
 use Rattle.degrees.proofs.Orders.{Finite, all-finite, inverse-1, inverse-2, inverse-3}
-use Rattle.degrees.proofs.Numbers.{within-180, angle-back, held-back, inverse-numbers, inverse-held}
+use Rattle.degrees.proofs.Numbers.{angle-back, held-back, inverse-numbers, inverse-held}
 use Rattle.degrees.proofs.position.inverse_degrees.Statement.{statement}
 use Rattle.degrees.proofs.position.inverse_degrees.Tie as tie
 
@@ -51,7 +51,7 @@ central-good c = sym (central-test (c .before)) ∙ c .if3 .left
 central-is : (c : tie.After-centiseconds) → toZ w32 (ofZ w32 (c .centiseconds .result)) ≡ centiseconds (start3 (c .before) .args .central)
 central-is c =
     let x = start3 (c .before) .args .central in
-    angle-back x (within-180 x (central-good (c .before))) (c .centiseconds .ensures)
+    angle-back x (read-within 180 perDegree x (central-good (c .before))) (c .centiseconds .ensures)
 
 x-is : (c : tie.After-units) → toZ w32 (ofZ w32 (c .units .result)) ≡ held (units (start3 (c .before .before) .args .x))
 x-is c = held-back (units (start3 (c .before .before) .args .x)) (c .units .ensures)
@@ -67,7 +67,7 @@ answered c =
     let s = start3 c3 .args in
     rw (central-is (c .before .before .before), x-is (c .before .before), y-is (c .before)) at (c .inverse .ensures)
     ∙ inverse-held (s .kind) (centiseconds (s .central)) (units (s .x)) (units (s .y)) (kind-good (c3 .before .before .before .before))
-    (within-180 (s .central) (central-good c3))
+    (read-within 180 perDegree (s .central) (central-good c3))
 
 is-kind-requires : tie.Need-is-kind-requires
 is-kind-requires c κs = search needs
@@ -98,7 +98,7 @@ returns-3 c =
     (sym (central-test (c .before)) ∙ c .if3 .taken)
 
 centiseconds-requires : tie.Need-centiseconds-requires
-centiseconds-requires c κs = (all-good (c .before .before) .first, within-180 (start3 c .args .central) (central-good c))
+centiseconds-requires c κs = (all-good (c .before .before) .first, read-within 180 perDegree (start3 c .args .central) (central-good c))
 
 units-requires : tie.Need-units-requires
 units-requires c κs = all-good (c .before .before .before) .second
