@@ -2,7 +2,7 @@
 use mathlib.Core.Bool.{true, false}
 use mathlib.Core.Logic.{inl, inr, _↔_}
 use mathlib.Core.Path.{_≡_, sym, ap, subst, _∙_}
-use Prim.Native.Nat.{ℕ, _*_, _≤_, _<_}
+use Prim.Native.Nat.{ℕ, _*_, _≤_}
 use native.Mathlib.Omega.{arith}
 use borrow.Author.Tests.{not-false, ltb-false}
 use lib.IntN.{ℤ, negℤ, natAbs}
@@ -16,8 +16,6 @@ use Rattle.projection.specs.Inverse.{widthAt, positionOf}
 use Rattle.projection.specs.Refusal.{refused, given, isKind}
 use Rattle.projection.specs.Answer.{forwardOf, inverseOf}
 use Rattle.projection.proofs.Judged as Judged
-use Rattle.projection.proofs.Rows.{columns}
-use Rattle.projection.proofs.Found.{pole-small, found-small}
 use Rattle.degrees.specs.Reading.{readOf, perDegree, centiseconds, units, outside}
 use Rattle.degrees.specs.Writing.{degreesOf, unitsOf}
 use Rattle.degrees.specs.Answer.{onGiven, writtenPlace, writtenPosition, forwardOrder, inverseOrder, forwardOf as forwardDegrees, inverseOf as inverseDegrees}
@@ -29,8 +27,7 @@ use Rattle.degrees.proofs.Floats.{read-within}
 use Rattle.claims.specs.Demand3.{TurnedFloat, floats}
 use Rattle.claims.proofs.Refusals.{unless-given, same-refusals}
 use Rattle.claims.proofs.Accepted.{kind-false, Position, position, accepts, Place, place, admits}
-use Rattle.claims.proofs.Returning.{forward-back}
-use Rattle.claims.proofs.Resending.{back-forward}
+use Rattle.claims.proofs.Small.{place-small, position-small}
 use Rattle.claims.proofs.Ways.{Given, Accepts, Sent, SentBack, ByNumbers}
 
 -- a float turned
@@ -61,21 +58,6 @@ refused-y kind c l f f' h n =
     rw (turned-finite f f' h, turned-outside 90 f f' h)
     (same-refusals (forwardOrder kind c l f) (writtenPlace (placeOf (rowOf kind) (centiseconds c) (centiseconds l) (centiseconds f)))
     (writtenPlace (placeOf (rowOf kind) (centiseconds c) (centiseconds l) (centiseconds f'))) n)
-
--- numbers that are answered are small enough to be written
-place-small : (kind : ℕ) (c l f x y : ℤ) → forwardOf kind c l f ≡ given (x, y) → (natAbs x < 5 * N) × (natAbs y < 5 * N)
-place-small kind c l f x y e =
-    let r = forward-back kind c l f x y e in
-    let p = place kind c x y (r .longitude, r .latitude) (r .accepted) .0 in
-    let r = rowOf kind in
-    let k = columns kind (p .kind-good) in
-    (omega (arith, p .x-le, found-small r k y (p .y-le)), omega (arith, p .y-le, pole-small r k))
-
-position-small : (kind : ℕ) (c x y l f : ℤ) → inverseOf kind c x y ≡ given (l, f) → (natAbs l ≤ N) × (natAbs f ≤ H)
-position-small kind c x y l f e =
-    let r = back-forward kind c x y l f e in
-    let p = position kind c l f (r .x', r .y') (r .accepted) .0 in
-    (p .l-le, p .f-le)
 
 -- what floats themselves accept: a number within a limit, or any number
 abbrev Within : ℕ → Float → Type 0

@@ -8,4 +8,7 @@ pub mod Returning
 pub mod Resending
 pub mod Sharing
 pub mod Ways
+pub mod Small
 pub mod Floats
+pub mod Pieces
+pub mod Records

@@ -9,7 +9,7 @@ use Rattle.projection.specs.Refusal.{Refusal, refused, given, unless}
 use Rattle.claims.specs.Demand1.{None, First, Ordered}
 
 module _ {A : Type 0} where
-  not-both : (n : ℕ) (b : A) → refused n ≡ given b → ⊥
+  pub not-both : (n : ℕ) (b : A) → refused n ≡ given b → ⊥
   not-both n b e = let z : _≡_ {A = ℕ} 0 1 = cc in omega arith
 
   pub unless-none : (order : List Refusal) (a : A) → None order → unless order a ≡ given a

@@ -105,8 +105,7 @@ module _ (kind : ℕ) (c x y : ℤ) (p : Place kind c x y) where
         x' = xOf (halfWidth r (natAbs f)) (differenceOf c l);
         y' = yOf r f;
         accepted = accepts kind c l f here;
-        y-close = y-close;
-        x-close = x-close;
+        close = record { y-close = y-close; x-close = x-close };
       }
 
 pub back-forward : (kind : ℕ) (c x y l f : ℤ) → inverseOf kind c x y ≡ given (l, f) → Resends numbers kind c x y l f

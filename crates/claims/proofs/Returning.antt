@@ -100,8 +100,7 @@ module _ (kind : ℕ) (c l f : ℤ) (p : Position kind c l f) where
         longitude = longitudeOf c (differenceAt (widthAt r y) x);
         latitude = latitudeAt r y;
         accepted = admits kind c x y there;
-        latitude-same = latitude-back;
-        longitude-same = longitude-same;
+        same = record { latitude-same = latitude-back; longitude-same = longitude-same };
       }
 
 pub forward-back : (kind : ℕ) (c l f x y : ℤ) → forwardOf kind c l f ≡ given (x, y) → Returns numbers kind c l f x y

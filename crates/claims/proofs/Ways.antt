@@ -92,8 +92,12 @@ module _ (d : Demand3 numbers) (w : Way) (b : ByNumbers w) where
         longitude = g .first;
         latitude = g .second;
         accepted = g .answer;
-        latitude-same = g .second-is ∙ r .latitude-same;
-        longitude-same = λ h. subst (λ (m : ℤ). SameAt (w .centiseconds c) m (w .centiseconds l)) (sym (g .first-is)) (r .longitude-same h);
+        same =
+            record {
+              latitude-same = g .second-is ∙ r .same .latitude-same;
+              longitude-same = λ h.
+                  subst (λ (m : ℤ). SameAt (w .centiseconds c) m (w .centiseconds l)) (sym (g .first-is)) (r .same .longitude-same h);
+            };
       }
 
   back-forward : (kind : ℕ) (c : w .Angle) (x y : w .Coordinate) (l f : w .Angle) → w .inverse kind c x y ≡ given (l, f) →
@@ -106,8 +110,7 @@ module _ (d : Demand3 numbers) (w : Way) (b : ByNumbers w) where
         x' = g .first;
         y' = g .second;
         accepted = g .answer;
-        y-close = rw (g .second-is) (r .y-close);
-        x-close = rw (g .first-is) (r .x-close);
+        close = record { y-close = rw (g .second-is) (r .close .y-close); x-close = rw (g .first-is) (r .close .x-close) };
       }
 
   -- one of two meridians that share a place, handed in this way

@@ -16,6 +16,9 @@ use Rattle.projection.specs.Refusal.{Refusal, Outcome, refused, given, isKind}
 use Rattle.projection.specs.Answer.{widthOrder, forwardOrder, inverseOrder, widthOf, forwardOf, inverseOf}
 use Rattle.degrees.specs.Reading.{centiseconds, units}
 use Rattle.degrees.specs.Answer.{writtenPlace, writtenPosition, forwardOrder as forwardDegreesOrder, inverseOrder as inverseDegreesOrder, forwardOf as forwardDegrees, inverseOf as inverseDegrees}
+use Rattle.record.specs.declared.session.Session.{Session}
+use Rattle.record.specs.Answer.{pairOf, convertOrder, convertOf, outputAfter}
+use Rattle.record.specs.Session.{feedOrder, feedOf}
 
 -- no condition of an order holds
 abbrev pub None : List Refusal → Type 0
@@ -54,3 +57,10 @@ pub record Demand1 : Type 0 where
   pub inverse-degrees : (kind : ℕ) (central x y : Float) →
       Ordered (inverseDegrees kind central x y) (inverseDegreesOrder kind central x y)
       (writtenPosition (positionOf (rowOf kind) (centiseconds central) (units x) (units y)))
+  -- on records: an input piece, the length of the output piece, and for feed the session
+  pub convert-record : (input : List ℕ) (output : ℕ) →
+      Ordered (convertOf input output) (convertOrder input output) (pairOf input)
+  pub feed : (session : Session) (input : List ℕ) (output : ℕ) →
+      Ordered (feedOf session input output) (feedOrder session input output) (pairOf input)
+  -- a refusal leaves the output piece as it was lent, whatever its length
+  pub output-kept : (input output : List ℕ) (n : ℕ) → outputAfter input output (refused n) ≡ output

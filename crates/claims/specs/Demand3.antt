@@ -1,5 +1,5 @@
--- Demand 3, said once for every way of handing numbers in. What a session or a piece of bytes may refuse beyond that is
--- said with those.
+-- Demand 3, said once for every way of handing numbers in: whole numbers and floats. For records, whose pieces and session
+-- may refuse beyond that, it is said in RecordLaws.
 use mathlib.Core.Logic.{_⊎_, _≢_, _↔_}
 use mathlib.Core.Path.{_≡_}
 use mathlib.Core.Bool.{true}
@@ -86,13 +86,17 @@ module _ (w : Way) where
   abbrev pub width : ℕ → w .Angle → ℕ
   width kind f = halfWidth (rowOf kind) (natAbs (w .centiseconds f))
 
-  -- the place (x, y) of a position (l, f) is accepted and comes back to f and, on a parallel of half-width N or more, to l
+  -- (m, g) is the position (l, f) again: the same latitude and, on a parallel of half-width N or more, the same longitude
+  pub record SamePosition (kind : ℕ) (c l f m g : w .Angle) : Type 0 where
+    pub latitude-same : w .centiseconds g ≡ w .centiseconds f
+    pub longitude-same : N ≤ width kind f → SameAt (w .centiseconds c) (w .centiseconds m) (w .centiseconds l)
+
+  -- the place (x, y) of a position (l, f) is accepted and comes back to it
   pub record Returns (kind : ℕ) (c l f : w .Angle) (x y : w .Coordinate) : Type 0 where
     pub longitude : w .Angle
     pub latitude : w .Angle
     pub accepted : w .inverse kind c x y ≡ given (longitude, latitude)
-    pub latitude-same : w .centiseconds latitude ≡ w .centiseconds f
-    pub longitude-same : N ≤ width kind f → SameAt (w .centiseconds c) (w .centiseconds longitude) (w .centiseconds l)
+    pub same : SamePosition kind c l f longitude latitude
 
   -- two different meridians have equal forward answers
   pub record Shares (kind : ℕ) (c f : w .Angle) : Type 0 where
@@ -110,14 +114,18 @@ module _ (w : Way) where
   abbrev pub difference : ℕ → w .Coordinate → w .Coordinate → ℤ
   difference kind x y = differenceAt (widthAt (rowOf kind) (w .units y)) (w .units x)
 
-  -- the position (l, f) of a place (x, y) is accepted and comes back to within 2 units on each axis, x unless the difference
-  -- is exactly 180 degrees and the central meridian c is not 0
+  -- (x', y') is within 2 units of the place (x, y) on each axis, x unless the difference is exactly 180 degrees and the central
+  -- meridian c is not 0
+  pub record ClosePlace (kind : ℕ) (c : w .Angle) (x y x' y' : w .Coordinate) : Type 0 where
+    pub y-close : Close (w .units y') (w .units y)
+    pub x-close : Close (w .units x') (w .units x) ⊎ ((natAbs (difference kind x y) ≡ N) × (w .centiseconds c ≢ pos 0))
+
+  -- the position (l, f) of a place (x, y) is accepted and comes back near to it
   pub record Resends (kind : ℕ) (c : w .Angle) (x y : w .Coordinate) (l f : w .Angle) : Type 0 where
     pub x' : w .Coordinate
     pub y' : w .Coordinate
     pub accepted : w .forward kind c l f ≡ given (x', y')
-    pub y-close : Close (w .units y') (w .units y)
-    pub x-close : Close (w .units x') (w .units x) ⊎ ((natAbs (difference kind x y) ≡ N) × (w .centiseconds c ≢ pos 0))
+    pub close : ClosePlace kind c x y x' y'
 
   pub record Demand3 : Type 0 where
     pub turning-x : (kind : ℕ) (c c' l l' f : w .Angle) → w .Turned c c' → w .Turned l l' →

@@ -2,7 +2,10 @@ pub mod Demands
 pub mod Demand1
 pub mod Demand2
 pub mod Demand3
+pub mod RecordLaws
+pub mod Histories
 pub mod Written
 pub mod Examples
+pub mod RecordExample
 pub mod Arithmetic
 pub mod ExactRoot

@@ -1,6 +1,6 @@
 -- `claims::hold` meets its contract: each claim, by its law.
 use mathlib.Core.Bool.{true, false}
-use mathlib.Core.Path.{refl}
+use mathlib.Core.Path.{_≡_, refl}
 use Prim.Native.Nat.{ℕ, suc, _*_, _^_, _≤_}
 use native.Mathlib.Omega.{arith}
 use borrow.Author.Tests.{le-leb}
@@ -22,7 +22,7 @@ use Rattle.projection.specs.Parallel.{radicand, rootBy, rootAt, numerator, half
 use Rattle.projection.specs.Longitude.{wrap}
 use Rattle.projection.specs.Columns.{combined, Usable}
 use Rattle.projection.specs.Forward.{xOf, yOf, placeOf}
-use Rattle.projection.specs.Refusal.{isKind, unless}
+use Rattle.projection.specs.Refusal.{given, isKind, unless}
 use Rattle.projection.specs.Inverse.{positionOf}
 use Rattle.projection.specs.Answer.{widthOrder, forwardOrder, inverseOrder, widthOf, forwardOf, inverseOf}
 use Rattle.projection.proofs.Rows.{kind-range, columns}
@@ -31,12 +31,21 @@ use Rattle.degrees.specs.Reading.{readOf, centiseconds, units}
 use Rattle.degrees.specs.Writing.{degreesOf, unitsOf}
 use Rattle.degrees.specs.Answer.{writtenPlace, writtenPosition, forwardOrder as forwardDegreesOrder, inverseOrder as inverseDegreesOrder, forwardOf as forwardDegrees, inverseOf as inverseDegrees}
 use Rattle.degrees.proofs.Written.{degrees-stand, units-stand}
+use Rattle.little_endian.specs.Number.{bytesOf, numberAt}
+use Rattle.record.specs.Record.{recordOf, movedOf}
+use Rattle.record.specs.Answer.{pairOrder, pairOf, convertOrder, convertOf, outputAfter}
+use Rattle.record.specs.Session.{feedOrder, feedOf, sessionAfter}
+use Rattle.record.specs.History.{answersOf, sessionOf}
+use Rattle.record.proofs.Histories.{answers-alike, agrees}
 use Rattle.claims.specs.Arithmetic.{Arithmetic}
 use Rattle.claims.specs.Demand1.{Demand1}
 use Rattle.claims.specs.Demand2.{Demand2, Parallel}
 use Rattle.claims.specs.Demand3.{Demand3, numbers, floats}
 use Rattle.claims.specs.Demands.{Demands}
+use Rattle.claims.specs.RecordLaws.{converting, feeding}
+use Rattle.claims.specs.Histories.{Histories}
 use Rattle.claims.specs.Examples.{Examples, examples}
+use Rattle.claims.specs.RecordExample.{RecordExample, input}
 use Rattle.claims.specs.Written.{Written, DegreesBack}
 use Rattle.claims.proofs.Bound.{within-one}
 use Rattle.claims.proofs.Roots.{exact}
@@ -47,6 +56,8 @@ use Rattle.claims.proofs.Sharing.{sharing}
 use Rattle.claims.proofs.Resending.{back-forward}
 use Rattle.claims.proofs.Ways.{by-numbers}
 use Rattle.claims.proofs.Floats.{floats-by-numbers}
+use Rattle.claims.proofs.Pieces.{converting-answers, feeding-answers}
+use Rattle.claims.proofs.Records.{records-by-numbers}
 use Rattle.claims.proofs.hold.Statement.{statement}
 use Rattle.claims.proofs.hold.Tie as tie
 
@@ -67,7 +78,7 @@ unfolding isKind rows
 kind-in kind h = rw (le-leb 1 kind (h .0)) (le→leb kind 10 (h .1))
 
 refusals : Demand1
-unfolding widthOf forwardOf inverseOf forwardDegrees inverseDegrees rows
+unfolding widthOf forwardOf inverseOf forwardDegrees inverseDegrees convertOf feedOf outputAfter rows
 refusals =
     record {
       kinds = λ kind. (kind-range kind, kind-in kind);
@@ -78,6 +89,9 @@ refusals =
           ordered (forwardDegreesOrder kind c l f) (writtenPlace (placeOf (rowOf kind) (centiseconds c) (centiseconds l) (centiseconds f)));
       inverse-degrees = λ kind c x y.
           ordered (inverseDegreesOrder kind c x y) (writtenPosition (positionOf (rowOf kind) (centiseconds c) (units x) (units y)));
+      convert-record = λ input output. ordered (convertOrder input output) (pairOf input);
+      feed = λ session input output. ordered (feedOrder session input output) (pairOf input);
+      output-kept = λ input output n. refl;
     }
 
 half-widths : Demand2
@@ -93,6 +107,17 @@ laws-of-numbers =
       back-forward = back-forward;
     }
 
+histories : Histories
+unfolding sessionAfter
+histories =
+    record {
+      moved-is = λ calls. agrees calls .moved;
+      refused-is = λ calls. agrees calls .refused;
+      kept-by-8 = λ session. refl;
+      kept-by-11 = λ session. refl;
+      answered = λ call earlier. answers-alike (sessionOf earlier) (answersOf earlier) call (agrees earlier);
+    }
+
 demands : Demands
 demands =
     record {
@@ -100,6 +125,9 @@ demands =
       half-widths = half-widths;
       laws-of-numbers = laws-of-numbers;
       laws-of-floats = by-numbers laws-of-numbers floats floats-by-numbers;
+      laws-of-convert-record = records-by-numbers converting converting-answers laws-of-numbers;
+      laws-of-feed = records-by-numbers feeding feeding-answers laws-of-numbers;
+      histories = histories;
     }
 
 degrees-written : (z : ℤ) → natAbs z ≤ N → DegreesBack z
@@ -126,6 +154,14 @@ worked : Examples
 unfolding examples forwardOf unless isKind placeOf xOf yOf height wrap rowOf rows halfWidth numerator rootAt radicand rootBy nearest carry root rootIn readOf
 worked = record { numbers = refl; values = refl }
 
+record-answer : convertOf input 16 ≡ given (pos 157079633, pos 78539816)
+unfolding convertOf unless pairOrder pairOf numberAt isKind placeOf xOf yOf height wrap rowOf rows halfWidth numerator rootAt radicand rootBy nearest carry
+record-answer = refl
+
+record-example : RecordExample
+unfolding outputAfter movedOf recordOf bytesOf numberAt
+record-example = record { answer = record-answer; written = λ output h. rw (h, record-answer) }
+
 arithmetic : Arithmetic
 arithmetic =
     record {
@@ -138,7 +174,7 @@ arithmetic =
     }
 
 returns : tie.Need-returns
-returns c = (demands, worked, arithmetic, written)
+returns c = (demands, worked, record-example, arithmetic, written)
 
 pub hold-spec : {M : Type 1} → statement M
 hold-spec = tie.close (tie.spec returns)

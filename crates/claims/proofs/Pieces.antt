@@ -1,0 +1,71 @@
+-- Both calls on a record answer 8 by the pieces, 11 by the session, and else what the record's own bytes ask for.
+use mathlib.Core.Bool.{Bool, true, false, not}
+use mathlib.Core.List.{List}
+use mathlib.Core.Path.{_≡_, refl, sym, ap, subst, _∙_}
+use Prim.Native.Nat.{ℕ}
+use lib.Dec.{T}
+use lib.IntN.{ℤ}
+use lib.ListN.{length}
+use Rattle.projection.specs.Refusal.{Outcome, refused, given}
+use Rattle.record.specs.Refusal.{bothOfSize}
+use Rattle.record.specs.Answer.{judgedOf}
+use Rattle.record.proofs.Orders.{converted-8, converted, fed-8, fed-11, fed}
+use Rattle.claims.specs.Demand3.{Alike}
+use Rattle.claims.specs.RecordLaws.{Handing, converting, feeding}
+use Rattle.claims.proofs.Refusals.{not-both}
+
+pub record Answers (h : Handing) : Type 0 where
+  pub short : (t : h .State) (s : List ℕ) (output : ℕ) → bothOfSize (length s) output ≡ false → h .answer t s output ≡ refused 8
+  pub filled : (t : h .State) (s : List ℕ) (output : ℕ) → bothOfSize (length s) output ≡ true → h .isFull t ≡ true →
+      h .answer t s output ≡ refused 11
+  pub judged : (t : h .State) (s : List ℕ) (output : ℕ) → bothOfSize (length s) output ≡ true → h .isFull t ≡ false →
+      h .answer t s output ≡ judgedOf s
+
+pub converting-answers : Answers converting
+converting-answers =
+    record {
+      short = λ t s output b. sym (converted-8 s output (ap not b));
+      filled = λ t s output b f. absurd (subst (λ (x : Bool). T (not x)) f tt);
+      judged = λ t s output b f. sym (converted s output (ap not b));
+    }
+
+pub feeding-answers : Answers feeding
+feeding-answers =
+    record {
+      short = λ t s output b. sym (fed-8 t s output (ap not b));
+      filled = λ t s output b f. sym (fed-11 t s output (ap not b) f);
+      judged = λ t s output b f. sym (fed t s output (ap not b) f);
+    }
+
+-- two outcomes that are refused by one number are alike
+pub both-refused : {A : Type 0} (R : A → A → Type 0) {a b : Outcome A} (n : ℕ) → a ≡ refused n → b ≡ refused n → Alike R a b
+both-refused R n ea eb =
+    record {
+      refusals = λ m. (λ e. eb ∙ sym ea ∙ e, λ e. ea ∙ sym eb ∙ e);
+      answers = λ p q e g. absurd (not-both n p (sym ea ∙ e));
+    }
+
+module _ (h : Handing) (a : Answers h) where
+  -- a call that converts had both pieces and room
+  pub record Converted (t : h .State) (s : List ℕ) (output : ℕ) (p : ℤ × ℤ) : Type 0 where
+    pub pieces : bothOfSize (length s) output ≡ true
+    pub room : h .isFull t ≡ false
+    pub record-is : judgedOf s ≡ given p
+
+  pub converted-as : (t : h .State) (s : List ℕ) (output : ℕ) (p : ℤ × ℤ) → h .answer t s output ≡ given p → Converted t s output p
+  converted-as t s output p e = go (bothOfSize (length s) output) (h .isFull t) refl refl
+    where
+      go : (b f : Bool) → bothOfSize (length s) output ≡ b → h .isFull t ≡ f → Converted t s output p
+      go false f eb ef = absurd (not-both 8 p (sym (a .short t s output eb) ∙ e))
+      go true true eb ef = absurd (not-both 11 p (sym (a .filled t s output eb ef) ∙ e))
+      go true false eb ef = record { pieces = eb; room = ef; record-is = sym (a .judged t s output eb ef) ∙ e }
+
+  -- records that are answered alike are answered alike by the call, with pieces as long and the same session
+  pub alike : (R : ℤ × ℤ → ℤ × ℤ → Type 0) (t : h .State) (s s' : List ℕ) (output : ℕ) → length s' ≡ length s →
+      Alike R (judgedOf s) (judgedOf s') → Alike R (h .answer t s output) (h .answer t s' output)
+  alike R t s s' output l k = go (bothOfSize (length s) output) (h .isFull t) refl refl
+    where
+      go : (b f : Bool) → bothOfSize (length s) output ≡ b → h .isFull t ≡ f → Alike R (h .answer t s output) (h .answer t s' output)
+      go false f eb ef = both-refused R 8 (a .short t s output eb) (a .short t s' output (rw l eb))
+      go true true eb ef = both-refused R 11 (a .filled t s output eb ef) (a .filled t s' output (rw l eb) ef)
+      go true false eb ef = rw (a .judged t s output eb ef, a .judged t s' output (rw l eb) ef) k

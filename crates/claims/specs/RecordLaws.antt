@@ -1,0 +1,95 @@
+-- Demand 3 for records, said once for both calls that take one: convert_record, and feed with a session.
+use mathlib.Core.Bool.{Bool, true, false}
+use mathlib.Core.List.{List}
+use mathlib.Core.Logic.{_⊎_, _≢_, _↔_}
+use mathlib.Core.Path.{_≡_}
+use Prim.Native.Nat.{ℕ, _<_}
+use lib.IntN.{ℤ, negℤ, natAbs}
+use lib.ListN.{length, take}
+use Rattle.projection.specs.Angle.{N}
+use Rattle.projection.specs.Table.{rowOf}
+use Rattle.projection.specs.Parallel.{halfWidth}
+use Rattle.projection.specs.Refusal.{Outcome, refused, given}
+use Rattle.record.specs.declared.session.Session.{Session}
+use Rattle.record.specs.Record.{size, position, place, kindIn, formIn, centralIn, firstIn, secondIn, movedOf}
+use Rattle.record.specs.Answer.{convertOf, outputAfter}
+use Rattle.record.specs.Session.{isFull, feedOf}
+use Rattle.claims.specs.Demand3.{numbers, OneMeridian, Alike, TurnedX, TurnedY, SamePosition, ClosePlace}
+
+-- a call: what it takes beside its two pieces, when that is full, and the answer by the input and the output's length
+pub record Handing : Type 1 where
+  pub State : Type 0
+  pub isFull : State → Bool
+  pub answer : State → List ℕ → ℕ → Outcome (ℤ × ℤ)
+
+-- convert_record takes nothing else
+abbrev pub converting : Handing
+converting = record { State = Unit {0}; isFull = λ _. false; answer = λ _ input output. convertOf input output }
+
+-- feed takes a session
+abbrev pub feeding : Handing
+feeding = record { State = Session; isFull = isFull; answer = feedOf }
+
+-- two pieces alike in length, mark, kind and form
+pub record SameHead (s t : List ℕ) : Type 0 where
+  pub length-same : length t ≡ length s
+  pub head-same : take 4 t ≡ take 4 s
+
+-- t is s with the signs of longitude and central meridian turned
+pub record TurnedEast (s t : List ℕ) : Type 0 where
+  pub head : SameHead s t
+  pub central : centralIn t ≡ negℤ (centralIn s)
+  pub longitude : firstIn t ≡ negℤ (firstIn s)
+  pub latitude : secondIn t ≡ secondIn s
+
+-- t is s with latitude's sign turned
+pub record TurnedNorth (s t : List ℕ) : Type 0 where
+  pub head : SameHead s t
+  pub central : centralIn t ≡ centralIn s
+  pub longitude : firstIn t ≡ firstIn s
+  pub latitude : secondIn t ≡ negℤ (secondIn s)
+
+-- t is s but for the longitude
+pub record OtherLongitude (s t : List ℕ) : Type 0 where
+  pub head : SameHead s t
+  pub central : centralIn t ≡ centralIn s
+  pub latitude : secondIn t ≡ secondIn s
+
+module _ (h : Handing) where
+  -- a moved record fed on, with any session and any output piece: refused by 8 exactly when the piece is not of 16 bytes, by
+  -- 11 exactly when the session is full, by nothing else; and what is answered then stands in P
+  pub record FedOn (bytes : List ℕ) (P : ℤ × ℤ → Type 0) (t : h .State) (output : ℕ) : Type 0 where
+    pub by-8 : (h .answer t bytes output ≡ refused 8) ↔ (output ≢ size)
+    pub by-11 : (h .answer t bytes output ≡ refused 11) ↔ ((output ≡ size) × (h .isFull t ≡ true))
+    pub nothing-else : (n : ℕ) → h .answer t bytes output ≡ refused n → (n ≡ 8) ⊎ (n ≡ 11)
+    pub accepted : output ≡ size → h .isFull t ≡ false → (q : ℤ × ℤ) × (h .answer t bytes output ≡ given q) × P q
+
+  -- two records that differ from s in longitude alone, by two different meridians, are moved to one and the same record
+  pub record SharedRecord (t : h .State) (s : List ℕ) (output : ℕ) : Type 0 where
+    pub first : List ℕ
+    pub second : List ℕ
+    pub first-like : OtherLongitude s first
+    pub second-like : OtherLongitude s second
+    pub different : OneMeridian (firstIn first) (firstIn second) → ⊥
+    pub place : ℤ × ℤ
+    pub accepted₁ : h .answer t first output ≡ given place
+    pub accepted₂ : h .answer t second output ≡ given place
+    pub same-record : movedOf first place ≡ movedOf second place
+
+  -- a record whose form is not 1 is a position, or refused by 10 or earlier
+  pub record RecordLaws : Type 0 where
+    pub turning-x : (t : h .State) (s s' : List ℕ) (output : ℕ) → formIn s ≢ place → TurnedEast s s' →
+        Alike (TurnedX numbers) (h .answer t s output) (h .answer t s' output)
+    pub turning-y : (t : h .State) (s s' : List ℕ) (output : ℕ) → formIn s ≢ place → TurnedNorth s s' →
+        Alike (TurnedY numbers) (h .answer t s output) (h .answer t s' output)
+    -- what the first call wrote is fed on as it stands
+    pub forward-back : (t t' : h .State) (s out : List ℕ) (output' : ℕ) (p : ℤ × ℤ) → formIn s ≡ position →
+        h .answer t s (length out) ≡ given p →
+        FedOn (outputAfter s out (h .answer t s (length out)))
+        (λ (q : ℤ × ℤ). SamePosition numbers (kindIn s) (centralIn s) (firstIn s) (secondIn s) (q .0) (q .1)) t' output'
+    pub sharing : (t : h .State) (s : List ℕ) (output : ℕ) (p : ℤ × ℤ) → formIn s ≡ position → h .answer t s output ≡ given p →
+        halfWidth (rowOf (kindIn s)) (natAbs (secondIn s)) < N → SharedRecord t s output
+    pub back-forward : (t t' : h .State) (s out : List ℕ) (output' : ℕ) (p : ℤ × ℤ) → formIn s ≡ place →
+        h .answer t s (length out) ≡ given p →
+        FedOn (outputAfter s out (h .answer t s (length out)))
+        (λ (q : ℤ × ℤ). ClosePlace numbers (kindIn s) (centralIn s) (firstIn s) (secondIn s) (q .0) (q .1)) t' output'

@@ -1,0 +1,78 @@
+-- `little_endian::write` meets its contract: four stores, one after the other.
+use mathlib.Core.List.{List, _++_, append-assoc}
+use mathlib.Core.Path.{_≡_, _∙_}
+use Prim.Native.Nat.{ℕ, suc, _+_, _/_, _%_, _≤_}
+use native.Mathlib.Omega.{arith}
+use denote.Ref.{now}
+use lib.ListN.{length, set, take, drop, length-set}
+use lib.Seq.{sets-eq}
+use Rattle.little_endian.specs.Number.{bytesOfWord}
+use borrow.Author.Needs.{needs}
+use Rattle.little_endian.proofs.write.Statement.{statement}
+use Rattle.little_endian.proofs.write.Tie as tie
+
+stores : (l : List ℕ) (at n : ℕ) → at + 4 ≤ length l →
+    set (set (set (set l at (n % 256)) (at + 1) (n / 256 % 256)) (at + 2) (n / 65536 % 256)) (at + 3) (n / 16777216)
+    ≡ take at l ++ (bytesOfWord n ++ drop (at + 4) l)
+stores l at n h =
+    let one : at + 1 ≡ suc at = omega arith in
+    let two : at + 2 ≡ suc (suc at) = omega arith in
+    let three : at + 3 ≡ suc (suc (suc at)) = omega arith in
+    rw (one, two, three) (sets-eq (bytesOfWord n) l at h) ∙ append-assoc (take at l) (bytesOfWord n) (drop (at + 4) l)
+
+cast-bytes : tie.Need-cast-bytes
+cast-bytes c = search needs
+
+slice-write-bytes : tie.Need-slice-write-bytes
+slice-write-bytes c = search needs
+
+cast-bytes-2 : tie.Need-cast-bytes-2
+cast-bytes-2 c = search needs
+
+add-bytes : tie.Need-add-bytes
+add-bytes c = search needs
+
+slice-write-bytes-2 : tie.Need-slice-write-bytes-2
+slice-write-bytes-2 c = simp length-set (omega arith)
+
+cast-bytes-3 : tie.Need-cast-bytes-3
+cast-bytes-3 c = search needs
+
+add-bytes-2 : tie.Need-add-bytes-2
+add-bytes-2 c = search needs
+
+slice-write-bytes-3 : tie.Need-slice-write-bytes-3
+slice-write-bytes-3 c = simp length-set (omega arith)
+
+cast-bytes-4 : tie.Need-cast-bytes-4
+cast-bytes-4 c = search needs
+
+add-bytes-3 : tie.Need-add-bytes-3
+add-bytes-3 c = search needs
+
+slice-write-bytes-4 : tie.Need-slice-write-bytes-4
+slice-write-bytes-4 c = simp length-set (omega arith)
+
+same-length : tie.Need-same-length
+same-length c = search needs
+
+returns : tie.Need-returns
+returns c = stores (now (c .args .bytes)) (c .args .at) (c .args .n) (c .pre)
+
+pub write-spec : {M : Type 1} → statement M
+write-spec =
+    tie.close
+    (tie.spec
+    cast-bytes
+    slice-write-bytes
+    cast-bytes-2
+    add-bytes
+    slice-write-bytes-2
+    cast-bytes-3
+    add-bytes-2
+    slice-write-bytes-3
+    cast-bytes-4
+    add-bytes-3
+    slice-write-bytes-4
+    same-length
+    returns)

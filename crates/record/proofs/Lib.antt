@@ -1,0 +1,4 @@
+pub mod Orders
+pub mod Counted
+pub mod Stored
+pub mod Histories

@@ -1,0 +1,94 @@
+-- `record::convert::judge` meets its contract: its tests are the conditions of the refusals, in their order.
+use mathlib.Core.Bool.{not}
+use mathlib.Core.Path.{_≡_, sym, ap, _∙_}
+use denote.Ref.{now}
+use mir.Syntax.{w32}
+use mir.Val.{toZ, ofZ}
+use mir.Facts.{toZ-ofZ}
+use Rattle.projection.proofs.Orders.{Passes}
+use Rattle.record.specs.Record.{centralIn, firstIn, secondIn}
+use Rattle.record.specs.Refusal.{badMark}
+use Rattle.record.proofs.Orders.{judged-9, judged-10, judged-position, judged-place}
+use borrow.Author.Needs.{needs}
+use Rattle.record.proofs.convert.judge.Statement.{statement}
+use Rattle.record.proofs.convert.judge.Tie as tie
+
+mark-test : (c : tie.After-has-mark) → not (c .has-mark .result) ≡ badMark (now (c .before .before .args .input)) .applies
+mark-test c = ap not (c .has-mark .ensures)
+
+mark-good : (c : tie.Else1) → Passes (badMark (now (c .before .before .before .args .input)))
+mark-good c = sym (mark-test (c .before)) ∙ c .if1 .left
+
+-- the three numbers that are handed on
+abbrev passed : tie.After-get3 → tie.Else1
+passed c = c .before .before .before .before .before
+
+central-is : (c : tie.After-get) → toZ w32 (ofZ w32 (c .get .result)) ≡ centralIn (now (c .before .before .before .before .before .before .args .input))
+central-is c = toZ-ofZ {w = w32} (record { sfits = c .get .ok }) ∙ c .get .ensures
+
+first-is : (c : tie.After-get2) → toZ w32 (ofZ w32 (c .get2 .result)) ≡ firstIn (now (c .before .before .before .before .before .before .before .args .input))
+first-is c = toZ-ofZ {w = w32} (record { sfits = c .get2 .ok }) ∙ c .get2 .ensures
+
+second-is : (c : tie.After-get3) → toZ w32 (ofZ w32 (c .get3 .result)) ≡ secondIn (now (passed c .before .before .before .args .input))
+second-is c = toZ-ofZ {w = w32} (record { sfits = c .get3 .ok }) ∙ c .get3 .ensures
+
+has-mark-requires : tie.Need-has-mark-requires
+has-mark-requires c κs = search needs
+
+returns : tie.Need-returns
+returns c = judged-9 (now (c .before .before .before .args .input)) (sym (mark-test (c .before)) ∙ c .if1 .taken)
+
+shared-slice-read-kind : tie.Need-shared-slice-read-kind
+shared-slice-read-kind c = search needs
+
+shared-slice-read-form : tie.Need-shared-slice-read-form
+shared-slice-read-form c = search needs
+
+get-requires : tie.Need-get-requires
+get-requires c κs = search needs
+
+get-requires-2 : tie.Need-get-requires-2
+get-requires-2 c κs = search needs
+
+get-requires-3 : tie.Need-get-requires-3
+get-requires-3 c κs = search needs
+
+forward-requires : tie.Need-forward-requires
+forward-requires c κs = search needs
+
+returns-2 : tie.Need-returns-2
+returns-2 c =
+    let b = c .before .before in
+    let e = passed b in
+    rw (central-is (b .before .before), first-is (b .before), second-is b) at (c .forward .ensures) ∙ judged-position (now (e .before .before .before .args .input)) (mark-good e) (c .before .if2 .taken)
+
+inverse-requires : tie.Need-inverse-requires
+inverse-requires c κs = search needs
+
+returns-3 : tie.Need-returns-3
+returns-3 c =
+    let b = c .before .before .before in
+    let e = passed b in
+    rw (central-is (b .before .before), first-is (b .before), second-is b) at (c .inverse .ensures) ∙ judged-place (now (e .before .before .before .args .input)) (mark-good e) (c .before .if3 .taken)
+
+returns-4 : tie.Need-returns-4
+returns-4 c =
+    let e = passed (c .before .before) in
+    judged-10 (now (e .before .before .before .args .input)) (mark-good e) (c .before .if2 .left) (c .if3 .left)
+
+pub judge-spec : {M : Type 1} → statement M
+judge-spec =
+    tie.close
+    (tie.spec
+    has-mark-requires
+    returns
+    shared-slice-read-kind
+    shared-slice-read-form
+    get-requires
+    get-requires-2
+    get-requires-3
+    forward-requires
+    returns-2
+    inverse-requires
+    returns-3
+    returns-4)

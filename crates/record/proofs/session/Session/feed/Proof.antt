@@ -1,0 +1,95 @@
+-- `record::session::Session::feed` meets its contract: 8, then 11, then what the record is answered.
+use mathlib.Core.Bool.{not}
+use mathlib.Core.Path.{_≡_, sym, ap, subst, _∙_}
+use Prim.Native.Nat.{_+_}
+use borrow.Author.Tests.{leb-false}
+use denote.Ref.{now}
+use lib.ListN.{length}
+use Rattle.projection.proofs.Orders.{Passes}
+use Rattle.record.specs.Refusal.{badPieces}
+use Rattle.record.specs.Session.{cap, full, sessionAfter, Counts}
+use Rattle.record.proofs.Orders.{fed-8, fed-11, fed, sizes, kept}
+use Rattle.record.proofs.Counted.{judged-counts}
+use borrow.Author.Needs.{needs}
+use Rattle.record.proofs.session.Session.feed.Statement.{statement}
+use Rattle.record.proofs.session.Session.feed.Tie as tie
+
+-- the way back to what was handed in, from each test
+abbrev start1 : tie.Else1 → tie.Start
+start1 c = c .before .before .before .before
+
+abbrev start2 : tie.Else2 → tie.Start
+start2 c = start1 (c .before .before)
+
+pieces-test : (c : tie.After-both-of-size) →
+    let s = c .before .before .before .args in
+    not (c .both-of-size .result) ≡ badPieces (now (s .input)) (length (now (s .output))) .applies
+pieces-test c = ap not (c .both-of-size .ensures)
+
+pieces-good : (c : tie.Else1) → let s = start1 c .args in Passes (badPieces (now (s .input)) (length (now (s .output))))
+pieces-good c = sym (pieces-test (c .before)) ∙ c .if1 .left
+
+full-test : (c : tie.After-is-full) → c .is-full .result ≡ full (start1 (c .before) .args .self) .applies
+full-test c = c .is-full .ensures
+
+not-full : (c : tie.Else2) → Passes (full (start2 c .args .self))
+not-full c = sym (full-test (c .before)) ∙ c .if2 .left
+
+both-of-size-requires : tie.Need-both-of-size-requires
+both-of-size-requires c κs = search needs
+
+returns : tie.Need-returns
+unfolding sessionAfter
+returns c =
+    let s = c .before .before .before .before .args in
+    let e = fed-8 (s .self) (now (s .input)) (length (now (s .output))) (sym (pieces-test (c .before)) ∙ c .if1 .taken) in
+    (e, (ap (sessionAfter (s .self)) e, kept (now (s .input)) (now (s .output)) 8 e))
+
+is-full-requires : tie.Need-is-full-requires
+is-full-requires c κs = search needs
+
+returns-2 : tie.Need-returns-2
+unfolding sessionAfter
+returns-2 c =
+    let c1 = c .before .before in
+    let s = start1 c1 .args in
+    let e = fed-11 (s .self) (now (s .input)) (length (now (s .output))) (pieces-good c1) (sym (full-test (c .before)) ∙ c .if2 .taken) in
+    (e, (ap (sessionAfter (s .self)) e, kept (now (s .input)) (now (s .output)) 11 e))
+
+convert-requires : tie.Need-convert-requires
+convert-requires c κs =
+    let s = start2 (c .before) .args in
+    sizes (length (now (s .input))) (length (now (s .output))) (pieces-good (c .before .before .before))
+
+with-requires : tie.Need-with-requires
+with-requires c κs =
+    let d = c .before .before .before .before in
+    let s = start2 d .args in (
+      leb-false cap (s .self .moved + s .self .refused) (not-full d),
+      subst Counts (sym (c .before .before .convert .ensures .0)) (judged-counts (now (s .input))),
+    )
+
+same-length : tie.Need-same-length
+same-length c = search needs
+
+returns-3 : tie.Need-returns-3
+returns-3 c =
+    let v = c .before .before .before in
+    let d = v .before .before in
+    let s = start2 d .args in
+    let e = fed (s .self) (now (s .input)) (length (now (s .output))) (pieces-good (d .before .before)) (not-full d) in
+    let a = v .convert .ensures .0 ∙ e in
+    (a, (c .with .ensures ∙ ap (sessionAfter (s .self)) a, rw (← e) (v .convert .ensures .1)))
+
+pub feed-spec : {M : Type 1} → statement M
+feed-spec =
+    tie.close
+    (tie.spec
+    both-of-size-requires
+    returns
+    is-full-requires
+    returns-2
+    convert-requires
+    with-requires
+    same-length
+    returns-3)

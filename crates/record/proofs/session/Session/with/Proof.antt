@@ -1,0 +1,39 @@
+-- `record::session::Session::with` meets its contract.
+use mathlib.Core.Path.{sym, ap, subst, _∙_}
+use lib.Dec.{T}
+use Rattle.projection.specs.declared.answer.Answer.{Answer}
+use Rattle.projection.specs.Answer.{meaning}
+use Rattle.record.specs.Session.{isCounted, Counts, sessionAfter}
+use Rattle.record.proofs.Counted.{one-refused}
+use borrow.Author.Needs.{needs}
+use Rattle.record.proofs.session.Session.with.Statement.{statement}
+use Rattle.record.proofs.session.Session.with.Tie as tie
+
+enum-told : tie.Need-enum-told
+enum-told c = search needs
+
+add-t4 : tie.Need-add-t4
+add-t4 c = search needs
+
+enum-told-2 : tie.Need-enum-told-2
+enum-told-2 c = search needs
+
+add-t5 : tie.Need-add-t5
+add-t5 c = search needs
+
+returns : tie.Need-returns
+unfolding sessionAfter
+returns c =
+    let s = c .before .before .before .args in
+    sym (ap (λ (a : Answer). sessionAfter (s .self) (meaning a)) (c .before .enum-told .given .1))
+
+returns-2 : tie.Need-returns-2
+returns-2 c =
+    let s = c .before .before .before in
+    let e = c .before .enum-told2 .given .1 in
+    let n = c .before .enum-told2 .given .0 .0 in
+    let h : T (isCounted n) = subst (λ (a : Answer). Counts (meaning a)) e (s .pre .1) in
+    one-refused (s .args .self) n h ∙ sym (ap (λ (a : Answer). sessionAfter (s .args .self) (meaning a)) e)
+
+pub with-spec : {M : Type 1} → statement M
+with-spec = tie.close (tie.spec enum-told add-t4 enum-told-2 add-t5 returns returns-2)

@@ -1,0 +1,5 @@
+pub mod Record
+pub mod Refusal
+pub mod Answer
+pub mod Session
+pub mod History

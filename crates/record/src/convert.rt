@@ -1,0 +1,75 @@
+// A record converted: judged by its own bytes, and then written.
+ghost use mathlib.Core.Path.{_≡_};
+ghost use lib.ListN.{length};
+ghost use Rattle.projection.specs.Answer.{meaning};
+ghost use Rattle.record.specs.Record.{size};
+ghost use Rattle.record.specs.Answer.{judgedOf, convertOf, outputAfter};
+use super::layout::CENTRAL;
+use super::layout::FIRST;
+use super::layout::PLACE;
+use super::layout::POSITION;
+use super::layout::SECOND;
+use super::layout::both_of_size;
+use super::layout::has_mark;
+use super::layout::other_form;
+use super::layout::write;
+use little_endian::get;
+use projection::Answer;
+use projection::forward;
+use projection::inverse;
+
+// Converts the record in `input` into `output`, or answers the first refusal that applies and leaves `output` as it is.
+pub fn convert_record(input: &[u8], output: &mut [u8]) -> Answer
+    ensures { λ r. ⌜ meaning r ≡ convertOf (now (input .entry)) (length (now (output .entry))) ⌝ }
+    ensures { λ _. ⌜ now (output .exit) ≡ outputAfter (now (input .entry)) (now (output .entry)) (convertOf (now (input .entry)) (length (now (output .entry)))) ⌝ }
+{
+    if !both_of_size(input.len(), output.len()) {
+        return Answer::Refused(8);
+    }
+    convert(input, output)
+}
+
+// The same for two pieces of a record's length.
+pub(crate) fn convert(input: &[u8], output: &mut [u8]) -> Answer
+    requires { ⌜ (length (now input) ≡ size) × (length (now output) ≡ size) ⌝ }
+    ensures { λ r. ⌜ meaning r ≡ judgedOf (now (input .entry)) ⌝ }
+    ensures { λ _. ⌜ now (output .exit) ≡ outputAfter (now (input .entry)) (now (output .entry)) (judgedOf (now (input .entry))) ⌝ }
+{
+    let answer = judge(input);
+    match answer {
+        Answer::Pair(first, second) => {
+            write(
+                output,
+                input[2],
+                other_form(input[3]),
+                get(input, CENTRAL),
+                first,
+                second,
+            );
+            Answer::Pair(first, second)
+        }
+        Answer::Refused(n) => Answer::Refused(n),
+    }
+}
+
+// What a record is answered by its own bytes.
+fn judge(input: &[u8]) -> Answer
+    requires { ⌜ length (now input) ≡ size ⌝ }
+    ensures { λ r. ⌜ meaning r ≡ judgedOf (now (input .entry)) ⌝ }
+{
+    if !has_mark(input) {
+        return Answer::Refused(9);
+    }
+    let kind = input[2];
+    let form = input[3];
+    let central = get(input, CENTRAL);
+    let first = get(input, FIRST);
+    let second = get(input, SECOND);
+    if form == POSITION {
+        return forward(kind, central, first, second);
+    }
+    if form == PLACE {
+        return inverse(kind, central, first, second);
+    }
+    Answer::Refused(10)
+}
