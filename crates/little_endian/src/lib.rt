@@ -35,10 +35,7 @@ pub fn put(bytes: &mut [u8], at: usize, z: i32) -> bool
 fn has_four(length: usize, at: usize) -> bool
     ensures { λ r. ⌜ r ≡ leb (at + 4) length ⌝ }
 {
-    if length < 4 {
-        return false;
-    }
-    at <= length - 4
+    if length < 4 { false } else { at <= length - 4 }
 }
 
 fn read(bytes: &[u8], at: usize) -> i32

@@ -1,23 +1,35 @@
 -- `record::convert::judge` meets its contract: its tests are the conditions of the refusals, in their order.
 use mathlib.Core.Bool.{not}
 use mathlib.Core.Path.{_≡_, sym, ap, _∙_}
+use mathlib.Core.List.{List}
+use Prim.Native.Nat.{ℕ}
 use denote.Ref.{now}
+use lib.IntN.{ℤ}
 use mir.Syntax.{w32}
 use mir.Val.{toZ, ofZ}
 use mir.Facts.{toZ-ofZ}
+use Rattle.projection.specs.Refusal.{Outcome}
+use Rattle.projection.specs.Answer.{forwardOf, inverseOf}
 use Rattle.projection.proofs.Orders.{Passes}
-use Rattle.record.specs.Record.{centralIn, firstIn, secondIn}
+use Rattle.record.specs.Record.{kindIn, centralIn, firstIn, secondIn}
 use Rattle.record.specs.Refusal.{badMark}
 use Rattle.record.proofs.Orders.{judged-9, judged-10, judged-position, judged-place}
 use borrow.Author.Needs.{needs}
 use Rattle.record.proofs.convert.judge.Statement.{statement}
 use Rattle.record.proofs.convert.judge.Tie as tie
 
+abbrev input : tie.Else1 → List ℕ
+input c = now (c .before .before .before .args .input)
+
 mark-test : (c : tie.After-has-mark) → not (c .has-mark .result) ≡ badMark (now (c .before .before .args .input)) .applies
 mark-test c = ap not (c .has-mark .ensures)
 
-mark-good : (c : tie.Else1) → Passes (badMark (now (c .before .before .before .args .input)))
+mark-good : (c : tie.Else1) → Passes (badMark (input c))
 mark-good c = sym (mark-test (c .before)) ∙ c .if1 .left
+
+-- an answer at three numbers is that at the numbers they are
+at-numbers : (answer : ℤ → ℤ → ℤ → Outcome (ℤ × ℤ)) {c c' f f' s s' : ℤ} → c ≡ c' → f ≡ f' → s ≡ s' → answer c f s ≡ answer c' f' s'
+at-numbers answer c f s = rw (c, f, s)
 
 -- the three numbers that are handed on
 abbrev passed : tie.After-get3 → tie.Else1
@@ -29,7 +41,7 @@ central-is c = toZ-ofZ {w = w32} (record { sfits = c .get .ok }) ∙ c .get .ens
 first-is : (c : tie.After-get2) → toZ w32 (ofZ w32 (c .get2 .result)) ≡ firstIn (now (c .before .before .before .before .before .before .before .args .input))
 first-is c = toZ-ofZ {w = w32} (record { sfits = c .get2 .ok }) ∙ c .get2 .ensures
 
-second-is : (c : tie.After-get3) → toZ w32 (ofZ w32 (c .get3 .result)) ≡ secondIn (now (passed c .before .before .before .args .input))
+second-is : (c : tie.After-get3) → toZ w32 (ofZ w32 (c .get3 .result)) ≡ secondIn (input (passed c))
 second-is c = toZ-ofZ {w = w32} (record { sfits = c .get3 .ok }) ∙ c .get3 .ensures
 
 has-mark-requires : tie.Need-has-mark-requires
@@ -60,7 +72,9 @@ returns-2 : tie.Need-returns-2
 returns-2 c =
     let b = c .before .before in
     let e = passed b in
-    rw (central-is (b .before .before), first-is (b .before), second-is b) at (c .forward .ensures) ∙ judged-position (now (e .before .before .before .args .input)) (mark-good e) (c .before .if2 .taken)
+    c .forward .ensures
+    ∙ at-numbers (forwardOf (kindIn (input e))) (central-is (b .before .before)) (first-is (b .before)) (second-is b)
+    ∙ judged-position (input e) (mark-good e) (c .before .if2 .taken)
 
 inverse-requires : tie.Need-inverse-requires
 inverse-requires c κs = search needs
@@ -69,12 +83,14 @@ returns-3 : tie.Need-returns-3
 returns-3 c =
     let b = c .before .before .before in
     let e = passed b in
-    rw (central-is (b .before .before), first-is (b .before), second-is b) at (c .inverse .ensures) ∙ judged-place (now (e .before .before .before .args .input)) (mark-good e) (c .before .if3 .taken)
+    c .inverse .ensures
+    ∙ at-numbers (inverseOf (kindIn (input e))) (central-is (b .before .before)) (first-is (b .before)) (second-is b)
+    ∙ judged-place (input e) (mark-good e) (c .before .if3 .taken)
 
 returns-4 : tie.Need-returns-4
 returns-4 c =
     let e = passed (c .before .before) in
-    judged-10 (now (e .before .before .before .args .input)) (mark-good e) (c .before .if2 .left) (c .if3 .left)
+    judged-10 (input e) (mark-good e) (c .before .if2 .left) (c .if3 .left)
 
 pub judge-spec : {M : Type 1} → statement M
 judge-spec =
