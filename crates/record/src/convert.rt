@@ -6,6 +6,8 @@ ghost use Rattle.record.specs.Record.{size};
 ghost use Rattle.record.specs.Answer.{judgedOf, convertOf, outputAfter};
 use super::layout::CENTRAL;
 use super::layout::FIRST;
+use super::layout::FORM;
+use super::layout::KIND;
 use super::layout::PLACE;
 use super::layout::POSITION;
 use super::layout::SECOND;
@@ -40,8 +42,8 @@ pub(crate) fn convert(input: &[u8], output: &mut [u8]) -> Answer
         Answer::Pair(first, second) => {
             write(
                 output,
-                input[2],
-                other_form(input[3]),
+                input[KIND],
+                other_form(input[FORM]),
                 get(input, CENTRAL),
                 first,
                 second,
@@ -60,8 +62,8 @@ fn judge(input: &[u8]) -> Answer
     if !has_mark(input) {
         return Answer::Refused(9);
     }
-    let kind = input[2];
-    let form = input[3];
+    let kind = input[KIND];
+    let form = input[FORM];
     let central = get(input, CENTRAL);
     let first = get(input, FIRST);
     let second = get(input, SECOND);

@@ -14,7 +14,11 @@ pub(crate) const POSITION: u8 = 0;
 
 pub(crate) const PLACE: u8 = 1;
 
-// Places of the numbers.
+// Byte places: the mark stands at 0 and 1.
+pub(crate) const KIND: usize = 2;
+
+pub(crate) const FORM: usize = 3;
+
 pub(crate) const CENTRAL: usize = 4;
 
 pub(crate) const FIRST: usize = 8;
@@ -53,8 +57,8 @@ pub(crate) fn write(bytes: &mut [u8], kind: u8, form: u8, central: i32, first: i
 {
     bytes[0] = MARK[0];
     bytes[1] = MARK[1];
-    bytes[2] = kind;
-    bytes[3] = form;
+    bytes[KIND] = kind;
+    bytes[FORM] = form;
     put(bytes, CENTRAL, central);
     put(bytes, FIRST, first);
     put(bytes, SECOND, second);
