@@ -3,8 +3,8 @@ use crate::map::{row_latitude, row_width, row_y, HALF_TURN, RIGHT_ANGLE};
 use crate::requests::{back_and_there, place, position, there_and_back, width, DEGREE};
 use crate::table::{row_of, Row};
 
-const LEAST: i128 = i32::MIN as i128;
-const GREATEST: i128 = i32::MAX as i128;
+pub const LEAST: i128 = i32::MIN as i128;
+pub const GREATEST: i128 = i32::MAX as i128;
 
 /// Numbers outside every range, some of them past 32 bits.
 const FAR: [i128; 10] = [
@@ -28,14 +28,14 @@ const NEAR_THE_POLE: i128 = RIGHT_ANGLE - DEGREE / 100;
 const CENTRALS: [i128; 6] = [0, 1, -1, HALF_TURN, -HALF_TURN, 170 * DEGREE];
 
 /// The sizes with both signs, each number once.
-fn signed(sizes: &[i128]) -> Vec<i128> {
+pub fn signed(sizes: &[i128]) -> Vec<i128> {
     let mut all: Vec<i128> = sizes.iter().flat_map(|size| [-size, *size]).collect();
     all.sort();
     all.dedup();
     all
 }
 
-fn latitudes() -> Vec<i128> {
+pub fn latitudes() -> Vec<i128> {
     let pole = [RIGHT_ANGLE - 1, RIGHT_ANGLE, RIGHT_ANGLE + 1];
     signed(&[&[0, 1, 60 * DEGREE, NEAR_THE_POLE], &pole[..]].concat())
 }
@@ -56,7 +56,7 @@ pub fn widths() -> Vec<String> {
 }
 
 /// Longitudes at the edges of the map and of the central meridian's half turn.
-fn longitudes(central: i128) -> Vec<i128> {
+pub fn longitudes(central: i128) -> Vec<i128> {
     let edges = signed(&[0, 1, HALF_TURN - 1, HALF_TURN, HALF_TURN + 1]);
     let about_central = edges.iter().map(|d| central + d);
     let mut all: Vec<i128> = edges.iter().copied().chain(about_central).collect();
@@ -86,13 +86,13 @@ pub fn positions() -> Vec<String> {
 }
 
 /// y at the latitudes that matter, and one unit to either side.
-fn heights(row: &Row) -> Vec<i128> {
+pub fn heights(row: &Row) -> Vec<i128> {
     let at = [0, 60 * DEGREE, NEAR_THE_POLE, RIGHT_ANGLE].map(|latitude| row_y(row, latitude));
     signed(&at.map(|y| [y - 1, y, y + 1]).concat())
 }
 
 /// x at the edges of the row found at y, and at the Equator's.
-fn breadths(row: &Row, y: i128) -> Vec<i128> {
+pub fn breadths(row: &Row, y: i128) -> Vec<i128> {
     let w = row_width(row, row_latitude(row, y).abs().min(RIGHT_ANGLE));
     let equator = row_width(row, 0);
     signed(&[0, 1, 2, w - 2, w - 1, w, w + 1, equator, equator + 1])

@@ -1,13 +1,22 @@
 //! The second program: document 01's rules once more, with no code of the product. `second requests` writes requests for
 //! the program `query`, and `second answers` reads such requests and writes what is to be answered. `second random SEED
 //! ROUNDS` writes more requests on floats than the stored ones.
+//!
+//! `second convert` does what the program `convert` does. `second records` writes its stored input, `second refusals` and
+//! `second stations` those of two small runs, the latter from lines of text, and `second random-records SEED COUNT` more
+//! records than the stored ones.
 mod edges;
 mod float;
 mod float_edges;
 mod float_random;
 mod float_requests;
 mod map;
+mod record;
+mod record_cases;
+mod record_random;
 mod requests;
+mod session;
+mod stations;
 mod table;
 
 use map::{forward, half_width, inverse, Answer};
@@ -18,6 +27,7 @@ const FAR: i128 = 1 << 64;
 
 fn main() -> io::Result<()> {
     table::check();
+    record::check();
     let mut out = io::stdout().lock();
     let words: Vec<String> = std::env::args().skip(1).collect();
     match words.iter().map(String::as_str).collect::<Vec<_>>()[..] {
@@ -32,8 +42,20 @@ fn main() -> io::Result<()> {
             let lines = float_random::lines(seed, rounds);
             out.write_all((lines.join("\n") + "\n").as_bytes())
         }
+        ["convert"] => session::convert(io::stdin().lock(), out),
+        ["records"] => out.write_all(&record_cases::all()),
+        ["refusals"] => out.write_all(&record_cases::joined(&record_cases::refusals())),
+        ["stations"] => {
+            let records = stations::records(&io::read_to_string(io::stdin())?);
+            out.write_all(&record_cases::joined(&records))
+        }
+        ["random-records", seed, count] => {
+            let [seed, count] = [seed, count].map(|word| word.parse().expect("a number"));
+            record_random::write(seed, count, out)
+        }
         _ => {
-            eprintln!("second requests | second answers | second random SEED ROUNDS");
+            eprintln!("second requests | answers | random SEED ROUNDS");
+            eprintln!("second convert | records | refusals | stations | random-records SEED COUNT");
             std::process::exit(2)
         }
     }

@@ -93,7 +93,7 @@ fn random() -> Vec<String> {
 }
 
 /// The cases of document 01 that numbers can ask for.
-const DOCUMENT: [&str; 22] = [
+pub const DOCUMENT: [&str; 22] = [
     // P1 and P2
     "f 1 0 32400000 16200000",
     "f 1 0 -32400000 -16200000",
@@ -158,7 +158,7 @@ const ODD: [&str; 31] = [
 ];
 
 /// A number from -limit to limit.
-fn within(state: &mut u64, limit: i128) -> i128 {
+pub fn within(state: &mut u64, limit: i128) -> i128 {
     next(state) as i128 % (2 * limit + 1) - limit
 }
 

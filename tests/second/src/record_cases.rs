@@ -1,0 +1,192 @@
+//! Records at the edges: each byte of mark, kind and form, the limits of each number, and refusals beside each other.
+use crate::edges::{breadths, heights, latitudes, longitudes, signed, GREATEST, LEAST};
+use crate::map::{HALF_TURN, RIGHT_ANGLE};
+use crate::numbers;
+use crate::record::{record, Record, DOCUMENT, MARK, PLACE, POSITION};
+use crate::record_random::Chance;
+use crate::requests::{self, DEGREE};
+use crate::table::row_of;
+
+/// The stored input, with a torn record at its end.
+pub fn all() -> Vec<u8> {
+    let mut records = document();
+    records.extend(refusals());
+    records.extend(mixtures());
+    records.extend(first_bytes());
+    records.extend(far_numbers());
+    records.extend(positions());
+    records.extend(places());
+    records.extend(neighbours());
+    let mut chance = Chance::new(20_260_103);
+    records.extend((0..2000).map(|_| chance.record()));
+    let mut bytes = joined(&records);
+    bytes.extend(&DOCUMENT[..11]);
+    bytes
+}
+
+pub fn joined(records: &[Record]) -> Vec<u8> {
+    records.iter().flat_map(Record::bytes).collect()
+}
+
+/// A record, and after it the moved one, if it is converted.
+fn handed_on(first: Record) -> Vec<Record> {
+    std::iter::once(first)
+        .chain(first.converted().ok())
+        .collect()
+}
+
+/// Document 01's record first, then its other cases.
+fn document() -> Vec<Record> {
+    let mut records = handed_on(Record::read(&DOCUMENT));
+    for line in requests::DOCUMENT {
+        let form = if line.starts_with('f') {
+            POSITION
+        } else {
+            PLACE
+        };
+        let Some(&[kind, central, first, second]) = numbers(line).as_deref() else {
+            panic!("a request with four numbers: {line}")
+        };
+        records.extend(handed_on(record(form, kind, [central, first, second])));
+    }
+    records
+}
+
+/// How many things can be wrong with a record: mark, form, kind, central meridian and the two numbers of its form.
+const FAULTS: usize = 6;
+
+/// A record with the faults that the binary digits of `which` name, the first in the order of judging by the lowest.
+fn faulty(form: u8, kind: i128, which: usize) -> Record {
+    let has = |fault: usize| which >> fault & 1 == 1;
+    let number = |fault: usize, good, bad| if has(fault) { bad } else { good };
+    let central = number(3, 10 * DEGREE, -HALF_TURN - 1);
+    let good = if form == POSITION {
+        let longitude = number(4, 20 * DEGREE, HALF_TURN + 1);
+        let latitude = number(5, 30 * DEGREE, RIGHT_ANGLE + 1);
+        record(form, kind, [central, longitude, latitude])
+    } else {
+        let y = number(4, 40_000_000, -200_000_000);
+        let x = number(5, 50_000_000, 400_000_000);
+        record(form, kind, [central, x, y])
+    };
+    Record {
+        mark: if has(0) { [MARK[1], MARK[0]] } else { MARK },
+        form: if has(1) { form + 2 } else { form },
+        kind: if has(2) { 11 } else { good.kind },
+        ..good
+    }
+}
+
+/// For a position and for a place: no fault, each fault alone, then every two, so that the order shows.
+pub fn refusals() -> Vec<Record> {
+    let mut records = Vec::new();
+    for form in [POSITION, PLACE] {
+        let with = |which| faulty(form, 5, which);
+        records.push(with(0));
+        records.extend((0..FAULTS).map(|fault| with(1 << fault)));
+        for first in 0..FAULTS {
+            records.extend((first + 1..FAULTS).map(|second| with(1 << first | 1 << second)));
+        }
+    }
+    records
+}
+
+/// Every mixture of faults for each kind by turns.
+fn mixtures() -> Vec<Record> {
+    let mut kinds = (1..=10).cycle();
+    let mut records = Vec::new();
+    for form in [POSITION, PLACE] {
+        for which in 0..1 << FAULTS {
+            let kind = kinds.next().expect("an endless list");
+            records.push(faulty(form, kind, which));
+        }
+    }
+    records
+}
+
+/// Every byte in each of the first four places, in a position and in a place.
+fn first_bytes() -> Vec<Record> {
+    let mut records = Vec::new();
+    for form in [POSITION, PLACE] {
+        for at in 0..4 {
+            for byte in 0..=255 {
+                let mut bytes = record(form, 3, [DEGREE, 2 * DEGREE, 3 * DEGREE]).bytes();
+                bytes[at] = byte;
+                records.push(Record::read(&bytes.try_into().expect("a record")));
+            }
+        }
+    }
+    records
+}
+
+/// The ends of 32 bits and the first numbers past the ranges, in each place and in all three, for every kind in both forms.
+fn far_numbers() -> Vec<Record> {
+    let past = [LEAST, LEAST + 1, GREATEST, HALF_TURN + 1, -HALF_TURN - 1];
+    let mut records = Vec::new();
+    for kind in 1..=10 {
+        for form in [POSITION, PLACE] {
+            for far in past {
+                for numbers in [[far, 1, 2], [3, far, 4], [5, 6, far], [far; 3]] {
+                    records.push(record(form, kind, numbers));
+                }
+            }
+        }
+    }
+    records
+}
+
+/// Central meridians at both ends, and near to them.
+fn centrals() -> Vec<i128> {
+    signed(&[0, 1, 170 * DEGREE, HALF_TURN - 1, HALF_TURN])
+}
+
+/// Positions at the edges of the map, each handed on.
+fn positions() -> Vec<Record> {
+    let mut records = Vec::new();
+    let mut latitude = latitudes().into_iter().cycle();
+    for kind in 1..=10 {
+        for central in centrals() {
+            for longitude in longitudes(central) {
+                let latitude = latitude.next().expect("an endless list");
+                records.extend(handed_on(record(
+                    POSITION,
+                    kind,
+                    [central, longitude, latitude],
+                )));
+            }
+        }
+        for latitude in latitudes() {
+            for longitude in [HALF_TURN, -HALF_TURN] {
+                records.extend(handed_on(record(POSITION, kind, [0, longitude, latitude])));
+            }
+        }
+    }
+    records
+}
+
+/// Places at the edges of the row found and of the pole.
+fn places() -> Vec<Record> {
+    let mut records = Vec::new();
+    let mut centrals = centrals().into_iter().cycle();
+    for kind in 1..=10 {
+        let row = row_of(kind).expect("a kind of the table");
+        for y in heights(&row) {
+            for x in breadths(&row, y) {
+                let central = centrals.next().expect("an endless list");
+                records.push(record(PLACE, kind, [central, x, y]));
+            }
+        }
+    }
+    records
+}
+
+/// Neighbouring meridians of kind 2, each handed on: apart at 72 degrees, some of them in one place at 89.
+fn neighbours() -> Vec<Record> {
+    let mut records = Vec::new();
+    for latitude in [72 * DEGREE, 89 * DEGREE] {
+        for longitude in HALF_TURN - 20..=HALF_TURN {
+            records.extend(handed_on(record(POSITION, 2, [0, longitude, latitude])));
+        }
+    }
+    records
+}
