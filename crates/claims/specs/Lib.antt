@@ -7,5 +7,6 @@ pub mod Histories
 pub mod Written
 pub mod Examples
 pub mod RecordExample
+pub mod Printing
 pub mod Arithmetic
 pub mod ExactRoot

@@ -2,10 +2,11 @@
 ghost use Rattle.claims.specs.Arithmetic.{Arithmetic};
 ghost use Rattle.claims.specs.Demands.{Demands};
 ghost use Rattle.claims.specs.Examples.{Examples};
+ghost use Rattle.claims.specs.Printing.{Printing};
 ghost use Rattle.claims.specs.RecordExample.{RecordExample};
 ghost use Rattle.claims.specs.Written.{Written};
 
 // Does nothing. Its `ensures` is the product of all claims.
 pub fn hold()
-    ensures { λ _. ⌜ Demands × Examples × RecordExample × Arithmetic × Written ⌝ }
+    ensures { λ _. ⌜ Demands × Examples × RecordExample × Arithmetic × Written × Printing ⌝ }
 {}

@@ -1,6 +1,6 @@
 -- `claims::hold` meets its contract: each claim, by its law.
 use mathlib.Core.Bool.{true, false}
-use mathlib.Core.Path.{_≡_, refl}
+use mathlib.Core.Path.{_≡_, refl, sym, _∙_}
 use Prim.Native.Nat.{ℕ, suc, _*_, _^_, _≤_}
 use native.Mathlib.Omega.{arith}
 use borrow.Author.Tests.{le-leb}
@@ -34,9 +34,17 @@ use Rattle.degrees.proofs.Written.{degrees-stand, units-stand}
 use Rattle.little_endian.specs.Number.{bytesOf, numberAt}
 use Rattle.record.specs.Record.{recordOf, movedOf}
 use Rattle.record.specs.Answer.{pairOrder, pairOf, convertOrder, convertOf, outputAfter}
-use Rattle.record.specs.Session.{feedOrder, feedOf, sessionAfter}
+use Rattle.record.specs.Session.{opened, feedOrder, feedOf, sessionAfter}
 use Rattle.record.specs.History.{answersOf, sessionOf}
+use Rattle.record.proofs.Orders.{converted, fed}
 use Rattle.record.proofs.Histories.{answers-alike, agrees}
+use Rattle.report.specs.Decimal.{digitsIn, decimalOf, numberText}
+use Rattle.report.specs.Line.{lineOf, closingOf}
+use Rattle.report.specs.Block.{recordAt, answerAt, sessionAt, linesOf, tailOf, blockSession, blockLines}
+use Rattle.report.specs.Program.{endOf, printedFrom, printedOf}
+use Rattle.report.proofs.Decimals.{is-decimal}
+use Rattle.report.proofs.Blocks.{sessions-compose, lines-compose}
+use Rattle.report.proofs.Streams.{reads-do-not-matter, tail-refused, session-of-history}
 use Rattle.claims.specs.Arithmetic.{Arithmetic}
 use Rattle.claims.specs.Demand1.{Demand1}
 use Rattle.claims.specs.Demand2.{Demand2, Parallel}
@@ -46,6 +54,7 @@ use Rattle.claims.specs.RecordLaws.{converting, feeding}
 use Rattle.claims.specs.Histories.{Histories}
 use Rattle.claims.specs.Examples.{Examples, examples}
 use Rattle.claims.specs.RecordExample.{RecordExample, input}
+use Rattle.claims.specs.Printing.{Printing}
 use Rattle.claims.specs.Written.{Written, DegreesBack}
 use Rattle.claims.proofs.Bound.{within-one}
 use Rattle.claims.proofs.Roots.{exact}
@@ -173,8 +182,25 @@ arithmetic =
       exact = exact;
     }
 
+fed-answer : feedOf opened input 16 ≡ given (pos 157079633, pos 78539816)
+fed-answer = sym (fed opened input 16 refl refl) ∙ converted input 16 refl ∙ record-answer
+
+printing : Printing
+unfolding printedOf printedFrom blockLines blockSession tailOf linesOf sessionAt answerAt recordAt endOf lineOf closingOf sessionAfter numberText decimalOf digitsIn
+printing =
+    record {
+      decimal = is-decimal;
+      sessions = sessions-compose;
+      lines = lines-compose;
+      reads = reads-do-not-matter;
+      tail = tail-refused;
+      counts = session-of-history;
+      document = rw fed-answer;
+      empty = refl;
+    }
+
 returns : tie.Need-returns
-returns c = (demands, worked, record-example, arithmetic, written)
+returns c = (demands, worked, record-example, arithmetic, written, printing)
 
 pub hold-spec : {M : Type 1} → statement M
 hold-spec = tie.close (tie.spec returns)

@@ -1,0 +1,36 @@
+-- What the program prints is its whole input's, however it was read, and the text is what it should be.
+use mathlib.Core.List.{List, [], _∷_, _++_}
+use mathlib.Core.Path.{_≡_}
+use Prim.Native.Nat.{ℕ}
+use lib.IntN.{pos}
+use Rattle.report.specs.Decimal.{DecimalText}
+use Rattle.report.specs.Block.{SessionsCompose, LinesCompose}
+use Rattle.report.specs.Program.{printedOf, ReadsDoNotMatter, TailRefused, SessionOfHistory}
+use Rattle.claims.specs.RecordExample.{input}
+
+-- "157079633 78539816" and "moved 1 refused 0", each with a line feed
+abbrev pub pair : List ℕ
+pair = 49 ∷ 53 ∷ 55 ∷ 48 ∷ 55 ∷ 57 ∷ 54 ∷ 51 ∷ 51 ∷ 32 ∷ 55 ∷ 56 ∷ 53 ∷ 51 ∷ 57 ∷ 56 ∷ 49 ∷ 54 ∷ 10 ∷ []
+
+abbrev pub movedOne : List ℕ
+movedOne = 109 ∷ 111 ∷ 118 ∷ 101 ∷ 100 ∷ 32 ∷ 49 ∷ 32 ∷ 114 ∷ 101 ∷ 102 ∷ 117 ∷ 115 ∷ 101 ∷ 100 ∷ 32 ∷ 48 ∷ 10 ∷ []
+
+-- "moved 0 refused 0"
+abbrev pub movedNone : List ℕ
+movedNone = 109 ∷ 111 ∷ 118 ∷ 101 ∷ 100 ∷ 32 ∷ 48 ∷ 32 ∷ 114 ∷ 101 ∷ 102 ∷ 117 ∷ 115 ∷ 101 ∷ 100 ∷ 32 ∷ 48 ∷ 10 ∷ []
+
+pub record Printing : Type 0 where
+  -- numbers as text: digits that read back as the number, with no zero in front
+  pub decimal : DecimalText
+  -- blocks one after the other are one stream
+  pub sessions : SessionsCompose
+  pub lines : LinesCompose
+  -- however the reads cut the input, the output is that of the whole input
+  pub reads : ReadsDoNotMatter
+  -- a tail shorter than 16 bytes prints "refused 8", and no count changes
+  pub tail : TailRefused
+  -- the counts of the last line are those of the history of all whole records
+  pub counts : SessionOfHistory
+  -- document 01's record, and empty input
+  pub document : printedOf input ≡ pair ++ movedOne
+  pub empty : printedOf [] ≡ movedNone

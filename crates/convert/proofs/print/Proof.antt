@@ -1,0 +1,59 @@
+-- `convert::print` meets its contract: what is written stands in the text.
+use mathlib.Core.Path.{_≡_}
+use mathlib.Core.List.{List}
+use Prim.Native.Nat.{ℕ}
+use borrow.Author.Needs.{needs}
+use denote.Ref.{now}
+use lib.ListN.{length, take}
+use Rattle.report.specs.declared.buffer.Text.{Text}
+use Rattle.report.specs.declared.buffer.Text.the-variants.{Bytes}
+use Rattle.report.specs.Buffer.{Within}
+use Rattle.convert.proofs.print.Statement.{statement}
+use Rattle.convert.proofs.print.Tie as tie
+
+lent : (lines : Text) (end : ℕ) (text : List ℕ) → lines ≡ Bytes end → Within lines text → end ≡ length (take end text)
+lent lines end text e w = let h : Within (Bytes end) text = rw e at w in h .1
+
+enum-known-lines : tie.Need-enum-known-lines
+enum-known-lines c = search needs
+
+slice-aggregate-write-all : tie.Need-slice-aggregate-write-all
+slice-aggregate-write-all c =
+    let at = c .before .before in
+    let start = at .before .before .before in
+    lent (start .args .lines) (at .lines .given .0 .0) (now (start .args .text)) (at .lines .given .1) (start .pre)
+
+write-all-requires : tie.Need-write-all-requires
+write-all-requires c κs = search needs
+
+returns : tie.Need-returns
+returns c = search needs
+
+slice-aggregate-fail : tie.Need-slice-aggregate-fail
+slice-aggregate-fail c = search needs
+
+fail-requires : tie.Need-fail-requires
+fail-requires c κs = search needs
+
+enum-told : tie.Need-enum-told
+enum-told c = search needs
+
+returns-2 : tie.Need-returns-2
+returns-2 c = search needs
+
+returns-3 : tie.Need-returns-3
+returns-3 c = search needs
+
+pub print-spec : {M : Type 1} → statement M
+print-spec =
+    tie.close
+    (tie.spec
+    enum-known-lines
+    slice-aggregate-write-all
+    write-all-requires
+    returns
+    slice-aggregate-fail
+    fail-requires
+    enum-told
+    returns-2
+    returns-3)

@@ -1,0 +1,80 @@
+-- The records of a run of bytes: one record more, and blocks one after the other.
+use mathlib.Core.Path.{_≡_, refl, sym, ap, _∙_}
+use mathlib.Core.List.{List, append-assoc, append-nil}
+use Prim.Native.Nat.{ℕ, zero, suc, _+_, _-_, _*_, _<_}
+use native.Mathlib.Nat.{add-zero, add-suc, add-assoc, zero-add}
+use native.Mathlib.Numerals.{add-one}
+use native.Mathlib.Omega.{arith}
+use lib.ListN.{take, drop}
+use Rattle.projection.specs.Answer.{meaning}
+use Rattle.record.specs.declared.session.Session.{Session}
+use Rattle.record.specs.declared.session.Fed.{Fed}
+use Rattle.record.specs.Record.{size}
+use Rattle.record.specs.Session.{feedOf, sessionAfter}
+use Rattle.report.specs.Buffer.{Put}
+use Rattle.report.specs.Line.{lineOf}
+use Rattle.report.specs.Block.{recordAt, answerAt, sessionAt, linesOf, SessionsCompose, LinesCompose}
+use Rattle.report.proofs.Buffers.{put-none, put-twice}
+
+-- ---- one record after the other
+
+-- i records are fed, and their lines stand at the front of a text
+pub record Progress (t : Session) (s l : List ℕ) (i : ℕ) (state : Session) (end : ℕ) (l′ : List ℕ) : Type 0 where
+  pub session : state ≡ sessionAt t s 0 i
+  pub lines : Put l 0 (linesOf t s 0 i) end l′
+
+pub no-records : (t : Session) (s l : List ℕ) → Progress t s l 0 t 0 l
+unfolding sessionAt linesOf
+no-records t s l = record { session = refl; lines = put-none l }
+
+-- the bytes that are fed, as the code has them
+abbrev pub piece : List ℕ → ℕ → List ℕ
+piece s i = take (size * i + size - size * i) (drop (size * i) s)
+
+piece-is : (s : List ℕ) (i : ℕ) → piece s i ≡ recordAt s i
+unfolding recordAt
+piece-is s i = let e : size * i + size - size * i ≡ size = omega arith in ap (λ (k : ℕ). take k (drop (size * i) s)) e
+
+pub one-more : {t : Session} {s l : List ℕ} {i : ℕ} {state : Session} {end : ℕ} {l′ : List ℕ} {end′ : ℕ} {l″ : List ℕ} →
+    Progress t s l i state end l′ → (fed : Fed) (room : ℕ) → room ≡ size → meaning (fed .answer) ≡ feedOf state (piece s i) room →
+    fed .session ≡ sessionAfter state (feedOf state (piece s i) room) → Put l′ end (lineOf (meaning (fed .answer))) end′ l″ →
+    Progress t s l (i + 1) (fed .session) end′ l″
+unfolding sessionAt linesOf answerAt
+one-more {t} {s} {l} {i} p fed room e heard after put =
+    let u : Session = sessionAt t s 0 i in
+    let h : meaning (fed .answer) ≡ feedOf u (recordAt s i) size = heard ∙ rw (p .session, piece-is s i, e) refl in
+    let a : fed .session ≡ sessionAfter u (feedOf u (recordAt s i) size) = after ∙ rw (p .session, piece-is s i, e) refl in
+    rw (add-one i) (record { session = rw (zero-add i) a; lines = rw (zero-add i) (put-twice (omega arith) (p .lines) (rw h at put)) })
+
+-- ---- blocks compose
+
+pub sessions-compose : SessionsCompose
+unfolding sessionAt
+sessions-compose t s first a zero = rw (add-zero a) refl
+sessions-compose t s first a (suc b) = rw (add-suc a b, sessions-compose t s first a b, add-assoc first a b) refl
+
+pub lines-compose : LinesCompose
+unfolding linesOf
+lines-compose t s first a zero = rw (add-zero a) (sym (append-nil (linesOf t s first a)))
+lines-compose t s first a (suc b) =
+    rw (add-suc a b, lines-compose t s first a b, sessions-compose t s first a b, add-assoc first a b)
+    (append-assoc (linesOf t s first a) (linesOf (sessionAt t s first a) s (first + a) b) _)
+
+-- ---- the same records give the same session and the same lines
+
+module _ (t : Session) (s s′ : List ℕ) (first first′ : ℕ) where
+  abbrev pub Same : ℕ → Type 0
+  Same count = (i : ℕ) → i < count → recordAt s (first + i) ≡ recordAt s′ (first′ + i)
+
+  pub same-session : (count : ℕ) → Same count → sessionAt t s first count ≡ sessionAt t s′ first′ count
+  unfolding sessionAt answerAt
+  same-session zero same = refl
+  same-session (suc count) same =
+      rw (same-session count (λ i h. same i (omega arith)), same count (omega arith)) refl
+
+  pub same-lines : (count : ℕ) → Same count → linesOf t s first count ≡ linesOf t s′ first′ count
+  unfolding linesOf answerAt
+  same-lines zero same = refl
+  same-lines (suc count) same =
+      let less : Same count = λ i h. same i (omega arith) in
+      rw (same-lines count less, same-session count less, same count (omega arith)) refl

@@ -1,0 +1,4 @@
+pub mod Decimals
+pub mod Buffers
+pub mod Blocks
+pub mod Streams

@@ -1,0 +1,198 @@
+-- What the program prints: how reads add up, and what `take_in` and `last_lines` answer.
+use mathlib.Core.Path.{_≡_, refl, sym, ap, _∙_}
+use mathlib.Core.Bool.{true, false}
+use mathlib.Core.List.{List, [], _∷_, _++_, append-assoc, append-nil}
+use Prim.Native.Nat.{ℕ, zero, suc, _+_, _-_, _*_, _/_, _%_, _≤_, _<_}
+use native.Mathlib.Nat.{zero-add}
+use native.Mathlib.Omega.{arith}
+use borrow.Author.Tests.{le-leb, lt-leb, ne-eqb}
+use lib.ListN.{length, take, drop, length-append, length-drop}
+use lib.Seq.{length-take-le, take-append-le, drop-append-le, drop-drop}
+use Rattle.projection.specs.Refusal.{unless}
+use Rattle.projection.specs.Answer.{meaning}
+use Rattle.record.specs.declared.session.Session.{Session}
+use Rattle.record.specs.declared.session.Fed.{Fed}
+use Rattle.record.specs.Record.{size}
+use Rattle.record.specs.Session.{opened, feedOf, sessionAfter}
+use Rattle.record.specs.History.{sessionOf}
+use Rattle.report.specs.declared.block.Block.{Block}
+use Rattle.report.specs.declared.stream.Taken.{Taken}
+use Rattle.report.specs.declared.buffer.Text.the-variants.{Bytes, TooShort}
+use Rattle.report.specs.Buffer.{putFront}
+use Rattle.report.specs.Line.{lineOf, closingOf, lineRoom}
+use Rattle.report.specs.Block.{recordAt, answerAt, sessionAt, linesOf, recordsIn, tailOf, blockSession, blockLines, blockFits, Converted}
+use Rattle.report.specs.Program.{endOf, printedFrom, printedOf, printedBy, joined, ReadsDoNotMatter, TailRefused, callsOf, SessionOfHistory, takes, Took}
+use Rattle.report.proofs.Buffers.{too-short, was-placed, was-too-short}
+use Rattle.report.proofs.Blocks.{sessions-compose, lines-compose, same-session, same-lines}
+
+-- ---- bytes that come behind others
+
+module _ (t : Session) (s more : List ℕ) where
+  abbrev k : ℕ
+  k = recordsIn s
+
+  abbrev n : ℕ
+  n = recordsIn (tailOf s ++ more)
+
+  tail-length : length (tailOf s) ≡ length s - size * k
+  unfolding tailOf
+  tail-length = length-drop (size * k) s
+
+  -- the whole records of both
+  whole-is : recordsIn (s ++ more) ≡ k + n
+  whole-is =
+      let a = length-append s more in
+      let b = length-append (tailOf s) more in
+      let c = tail-length in
+      omega arith
+
+  -- what stands behind the first k records
+  behind-first : drop (size * k) (s ++ more) ≡ tailOf s ++ more
+  unfolding tailOf
+  behind-first = drop-append-le (size * k) s more (omega arith)
+
+  record-before : (i : ℕ) → i < k → recordAt (s ++ more) (0 + i) ≡ recordAt s (0 + i)
+  unfolding recordAt
+  record-before i h =
+      let e : drop (size * i) (s ++ more) ≡ drop (size * i) s ++ more = drop-append-le (size * i) s more (omega arith) in
+      rw (zero-add i, e) (take-append-le size (drop (size * i) s) more (simp length-drop (omega arith)))
+
+  later : (j : ℕ) → drop (size * (k + j)) (s ++ more) ≡ drop (size * j) (tailOf s ++ more)
+  later j =
+      let e : size * (k + j) ≡ size * k + size * j = omega arith in
+      rw e (sym (drop-drop (size * j) (size * k) (s ++ more)) ∙ ap (drop (size * j)) behind-first)
+
+  record-after : (i : ℕ) → i < n → recordAt (s ++ more) (0 + k + i) ≡ recordAt (tailOf s ++ more) (0 + i)
+  unfolding recordAt
+  record-after i h = rw (zero-add k, zero-add i, later i) refl
+
+  session-first : sessionAt t (s ++ more) 0 k ≡ blockSession t s
+  unfolding blockSession
+  session-first = same-session t (s ++ more) s 0 0 k record-before
+
+  block-session : blockSession t (s ++ more) ≡ blockSession (blockSession t s) (tailOf s ++ more)
+  unfolding blockSession
+  block-session =
+      rw (whole-is, sessions-compose t (s ++ more) 0 k n, session-first)
+      (same-session (blockSession t s) (s ++ more) (tailOf s ++ more) (0 + k) 0 n record-after)
+
+  block-lines : blockLines t (s ++ more) ≡ blockLines t s ++ blockLines (blockSession t s) (tailOf s ++ more)
+  unfolding blockLines
+  block-lines =
+      rw (whole-is, lines-compose t (s ++ more) 0 k n, session-first, same-lines t (s ++ more) s 0 0 k record-before)
+      (ap (λ (l : List ℕ). linesOf t s 0 k ++ l) (same-lines (blockSession t s) (s ++ more) (tailOf s ++ more) (0 + k) 0 n record-after))
+
+  block-tail : tailOf (s ++ more) ≡ tailOf (tailOf s ++ more)
+  unfolding tailOf
+  block-tail = rw whole-is (later n)
+
+  -- the lines of the first whole records, and then what is printed of the rest
+  printed-split : printedFrom t (s ++ more) ≡ blockLines t s ++ printedFrom (blockSession t s) (tailOf s ++ more)
+  unfolding printedFrom
+  printed-split =
+      rw (block-lines, block-session, block-tail)
+      (append-assoc (blockLines t s) (blockLines (blockSession t s) (tailOf s ++ more)) _)
+
+-- fewer bytes than a record are a tail
+printed-tail : (t : Session) (s : List ℕ) → length s < size → printedFrom t s ≡ endOf t s
+unfolding printedFrom blockLines blockSession tailOf linesOf sessionAt
+printed-tail t s h = let e : recordsIn s ≡ 0 = omega arith in rw e refl
+
+reads-from : (pieces : List (List ℕ)) (t : Session) (rest : List ℕ) → length rest < size →
+    printedBy t rest pieces ≡ printedFrom t (rest ++ joined pieces)
+unfolding printedBy joined
+reads-from [] t rest h = rw (append-nil rest) (sym (printed-tail t rest h))
+reads-from (piece ∷ pieces) t rest h =
+    let s : List ℕ = rest ++ piece in
+    let l = tail-length t s [] in
+    rw (sym (append-assoc rest piece (joined pieces)), printed-split t s (joined pieces))
+    (ap (λ (x : List ℕ). blockLines t s ++ x) (reads-from pieces (blockSession t s) (tailOf s) (omega arith)))
+
+pub reads-do-not-matter : ReadsDoNotMatter
+unfolding printedOf
+reads-do-not-matter pieces = reads-from pieces opened [] (omega arith)
+
+-- ---- the tail, and the history
+
+pub tail-refused : TailRefused
+unfolding endOf feedOf unless sessionAfter
+tail-refused t [] h k = absurd (omega arith)
+tail-refused t (b ∷ bs) h k =
+    let e : length (b ∷ bs) ≡ size → ⊥ = λ e. omega arith in
+    simp (ne-eqb _ _ e)
+
+history-from : (s : List ℕ) (count : ℕ) → sessionAt opened s 0 count ≡ sessionOf (callsOf s count)
+unfolding sessionAt answerAt sessionOf callsOf
+history-from s zero = refl
+history-from s (suc count) = rw (history-from s count, zero-add count) refl
+
+pub session-of-history : SessionOfHistory
+unfolding blockSession
+session-of-history s = history-from s (recordsIn s)
+
+-- ---- `take_in`
+
+module _ (t : Session) (total : ℕ) (buffer text : List ℕ) where
+  pub no-bytes : length buffer < total → Took t total buffer text (record { session = t; held = total; text = TooShort }) buffer text
+  no-bytes h =
+      let e : takes total buffer text ≡ false = simp (lt-leb _ _ h) in
+      record { session = rw e refl; held = rw e refl; left-over = rw e refl; lines = too-short e }
+
+  module _ (h : total ≤ length buffer) (r : Block) (text′ : List ℕ) (c : Converted t (take total buffer) text r text′) where
+    abbrev s : List ℕ
+    s = take total buffer
+
+    alike : takes total buffer text ≡ blockFits s text
+    alike = rw (le-leb _ _ h) refl
+
+    pub no-text : r .text ≡ TooShort → Took t total buffer text (record { session = r .session; held = total; text = r .text }) buffer text′
+    no-text e =
+        let b : blockFits s text ≡ false = was-too-short (blockFits s text) (c .lines) e in
+        let f : takes total buffer text ≡ false = alike ∙ b in
+        record { session = rw f (rw b at (c .session)); held = rw f refl; left-over = rw f refl; lines = rw alike (c .lines) }
+
+    held-is : length (tailOf s) ≡ total % size
+    held-is = let l = length-take-le total buffer h in let m = tail-length t s [] in omega arith
+
+    pub all-taken : (end : ℕ) (buffer′ : List ℕ) → r .text ≡ Bytes end →
+        buffer′ ≡ drop (total - total % size) (take total buffer) ++ drop (total - (total - total % size)) buffer →
+        Took t total buffer text (record { session = r .session; held = total % size; text = r .text }) buffer′ text′
+    unfolding tailOf putFront
+    all-taken end buffer′ e p =
+        let b : blockFits s text ≡ true = was-placed (blockFits s text) (c .lines) e in
+        let f : takes total buffer text ≡ true = alike ∙ b in
+        let l = length-take-le total buffer h in
+        let from : total - total % size ≡ size * recordsIn s = omega arith in
+        let n : total - (size * recordsIn s) ≡ length (tailOf s) = let m = held-is in omega arith in
+        record {
+          session = rw f (rw b at (c .session));
+          held = rw f (sym held-is);
+          left-over = rw f (p ∙ rw (from, n) refl);
+          lines = rw alike (c .lines);
+        }
+
+-- where the room is there, fewer bytes than a record are held over
+pub few-held : {t : Session} {total : ℕ} {buffer text : List ℕ} {r : Taken} {buffer′ text′ : List ℕ} →
+    Took t total buffer text r buffer′ text′ → total ≤ length buffer → lineRoom * (total / size) ≤ length text → r .held < size
+few-held {t} {total} {buffer} {text} {r} took h k =
+    let s : List ℕ = take total buffer in
+    let l : length s ≡ total = length-take-le total buffer h in
+    let b : lineRoom * recordsIn s ≤ length text = rw l k in
+    let f : takes total buffer text ≡ true = rw (le-leb _ _ h) (le-leb _ _ b) in
+    let e : r .held ≡ length (tailOf s) = rw f at (took .held) in
+    let m = tail-length t s [] in
+    omega arith
+
+-- ---- `last_lines`
+
+pub end-none : (t : Session) (tail : List ℕ) → length tail ≡ 0 → endOf t tail ≡ closingOf t
+unfolding endOf
+end-none t [] h = refl
+end-none t (b ∷ tail) h = absurd (omega arith)
+
+pub end-some : (t : Session) (tail : List ℕ) (fed : Fed) (room : ℕ) → (length tail ≡ 0 → ⊥) → room ≡ size →
+    meaning (fed .answer) ≡ feedOf t tail room → fed .session ≡ sessionAfter t (feedOf t tail room) →
+    endOf t tail ≡ lineOf (meaning (fed .answer)) ++ closingOf (fed .session)
+unfolding endOf
+end-some t [] fed room h e a s = absurd (h refl)
+end-some t (b ∷ tail) fed room h e a s = rw (a, s, e) refl

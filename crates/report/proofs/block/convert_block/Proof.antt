@@ -1,0 +1,140 @@
+-- `report::block::convert_block` meets its contract: at the loop's head i records are fed, and their lines are put.
+use mathlib.Core.Path.{_≡_, refl, ap, _∙_}
+use mathlib.Core.Bool.{true, false}
+use mathlib.Core.List.{List}
+use Prim.Native.Nat.{ℕ, _-_, _*_, _≤_, _<_}
+use native.Mathlib.Omega.{arith}
+use borrow.Author.Needs.{needs}
+use borrow.Author.Tests.{le-leb, lt-leb}
+use denote.Ref.{now}
+use lib.ListN.{length}
+use Rattle.record.specs.declared.session.Session.{Session}
+use Rattle.record.specs.Record.{size}
+use Rattle.report.specs.Line.{lineRoom}
+use Rattle.report.specs.Block.{sessionAt, recordsIn, blockSession, blockLines, blockFits}
+use Rattle.report.proofs.Buffers.{placed, too-short}
+use Rattle.report.proofs.Blocks.{Progress, no-records, one-more}
+use Rattle.report.proofs.block.convert_block.Statement.{statement}
+use Rattle.report.proofs.block.convert_block.Tie as tie
+
+record State (t : Session) (input text₀ : List ℕ) (text output : List ℕ) (state : Session) (end i : ℕ) : Type 0 where
+  fed : i ≤ recordsIn input
+  room : lineRoom * recordsIn input ≤ length text₀
+  bound : end ≤ lineRoom * i
+  piece : length output ≡ size
+  kept : length text ≡ length text₀
+  progress : Progress t input text₀ i state end text
+
+abbrev Inv-loop : tie.InvT-loop
+Inv-loop input text₀ count output₀ state₀ end₀ i₀ text output state end i = (count ≡ recordsIn input) × State state₀ input text₀ text output state end i
+
+abbrev μ-loop : tie.MeasureT-loop
+μ-loop input text₀ count output₀ state₀ end₀ i₀ text output state end i = count - i
+
+returns : tie.Need-returns Inv-loop μ-loop
+returns c =
+    let a = c .before .before .before .args in
+    let n : length (now (a .text)) < lineRoom * recordsIn (now (a .input)) = omega (arith, c .if1 .taken) in
+    let e : blockFits (now (a .input)) (now (a .text)) ≡ false = lt-leb _ _ n in
+    record { session = rw e refl; lines = too-short e }
+
+loop-holds : tie.Need-loop-holds Inv-loop μ-loop
+loop-holds c =
+    let a = c .before .before .before .args in (
+      refl,
+      record {
+        fed = omega arith;
+        room = omega (arith, c .if1 .left);
+        bound = omega arith;
+        piece = refl;
+        kept = refl;
+        progress = no-records (a .session) (now (a .input)) (now (a .text));
+      },
+    )
+
+mul-from : tie.Need-mul-from Inv-loop μ-loop
+mul-from c = search needs
+
+add-feed : tie.Need-add-feed Inv-loop μ-loop
+add-feed c = search needs
+
+sub-feed : tie.Need-sub-feed Inv-loop μ-loop
+sub-feed c = search needs
+
+part-feed-start : tie.Need-part-feed-start Inv-loop μ-loop
+part-feed-start c = search needs
+
+part-feed-end : tie.Need-part-feed-end Inv-loop μ-loop
+part-feed-end c = search needs
+
+slice-aggregate-feed : tie.Need-slice-aggregate-feed Inv-loop μ-loop
+slice-aggregate-feed c = search needs
+
+feed-requires : tie.Need-feed-requires Inv-loop μ-loop
+feed-requires c κs = search needs
+
+put-line-requires : tie.Need-put-line-requires Inv-loop μ-loop
+put-line-requires c κs = search needs
+
+add-i : tie.Need-add-i Inv-loop μ-loop
+add-i c = search needs
+
+loop-less : tie.Need-loop-less Inv-loop μ-loop
+loop-less c = search needs
+
+loop-again : tie.Need-loop-again Inv-loop μ-loop
+loop-again c =
+    let put = c .before .before .put-line in
+    let after = c .before .before .before .before .before .before in
+    let fed = after .feed in
+    let turn = after .before .before .before in
+    let l = turn .before .loop in
+    let s = l .inv .1 in (
+      l .inv .0,
+      record {
+        fed = omega (arith, turn .loop-test .taken, l .inv .0);
+        room = s .room;
+        bound = omega (arith, s .bound, put .ensures .1);
+        piece = fed .kept .1 .1 .0 ∙ s .piece;
+        kept = put .kept .0 ∙ s .kept;
+        progress = one-more (s .progress) (fed .result) (length (l .output)) (s .piece) (fed .ensures .0) (fed .ensures .1 .0) (put .ensures .0);
+      },
+    )
+
+same-length : tie.Need-same-length Inv-loop μ-loop
+same-length c = search needs
+
+returns-2 : tie.Need-returns-2 Inv-loop μ-loop
+unfolding blockSession blockLines
+returns-2 c =
+    let a = c .before .before .before .before .before .args in
+    let l = c .before .loop in
+    let s = l .inv .1 in
+    let n : l .i ≡ recordsIn (now (a .input)) = omega (arith, s .fed, c .loop-test .left, l .inv .0) in
+    let e : blockFits (now (a .input)) (now (a .text)) ≡ true = le-leb _ _ (s .room) in
+    record {
+      session = rw e (s .progress .session ∙ ap (sessionAt (a .session) (now (a .input)) 0) n);
+      lines = placed e (rw n at (s .progress .lines)) (omega (arith, s .bound, s .room, s .fed, s .kept));
+    }
+
+pub convert-block-spec : {M : Type 1} → statement M
+convert-block-spec =
+    tie.close
+    (tie.spec
+    Inv-loop
+    μ-loop
+    returns
+    loop-holds
+    mul-from
+    add-feed
+    sub-feed
+    part-feed-start
+    part-feed-end
+    slice-aggregate-feed
+    feed-requires
+    put-line-requires
+    add-i
+    loop-less
+    loop-again
+    same-length
+    returns-2)

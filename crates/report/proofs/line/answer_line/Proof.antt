@@ -1,0 +1,25 @@
+-- `report::line::answer_line` meets its contract.
+use native.Mathlib.Omega.{arith}
+use borrow.Author.Needs.{needs}
+use borrow.Author.Tests.{le-leb, lt-leb}
+use Rattle.report.proofs.Buffers.{placed, too-short}
+use Rattle.report.proofs.line.answer_line.Statement.{statement}
+use Rattle.report.proofs.line.answer_line.Tie as tie
+
+returns : tie.Need-returns
+returns c = too-short (lt-leb _ _ (c .if1 .taken))
+
+put-line-requires : tie.Need-put-line-requires
+put-line-requires c κs = search needs
+
+same-length : tie.Need-same-length
+same-length c = search needs
+
+returns-2 : tie.Need-returns-2
+returns-2 c =
+    let test = c .before .before .before .before in
+    let put = c .before .before .put-line in
+    placed (le-leb _ _ (test .if1 .left)) (put .ensures .0) (omega (arith, put .ensures .1, put .kept .0, test .if1 .left))
+
+pub answer-line-spec : {M : Type 1} → statement M
+answer-line-spec = tie.close (tie.spec returns put-line-requires same-length returns-2)

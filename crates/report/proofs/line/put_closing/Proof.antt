@@ -1,0 +1,130 @@
+-- `report::line::put_closing` meets its contract: each piece is put behind those before it.
+use mathlib.Core.List.{_++_, append-assoc}
+use Prim.Native.Nat.{ℕ, _+_, _^_, _≤_, _<_}
+use native.Mathlib.Omega.{arith}
+use borrow.Author.Needs.{needs}
+use denote.Ref.{now}
+use lib.ListN.{length}
+use Rattle.report.specs.Decimal.{decimalOf}
+use Rattle.report.specs.Line.{space, movedWord, refusedWord, closingOf}
+use Rattle.report.proofs.Decimals.{decimal-le}
+use Rattle.report.proofs.Buffers.{Bounded, behind}
+use Rattle.report.proofs.line.put_closing.Statement.{statement}
+use Rattle.report.proofs.line.put_closing.Tie as tie
+
+-- the way back to what was handed in, from each call
+abbrev start1 : tie.After-put-bytes → tie.Start
+start1 c = c .before .before .before .before
+
+abbrev start2 : tie.After-put-decimal → tie.Start
+start2 c = start1 (c .before .before .before .before)
+
+abbrev start3 : tie.After-put-bytes2 → tie.Start
+start3 c = start2 (c .before .before .before .before .before)
+
+abbrev start4 : tie.After-put-decimal2 → tie.Start
+start4 c = start3 (c .before .before .before .before)
+
+abbrev start5 : tie.After-put-byte → tie.Start
+start5 c = start4 (c .before .before .before .before)
+
+-- a count has 20 digits at most
+moved-le : (c : tie.Start) → length (decimalOf (c .args .session .moved)) ≤ 20
+moved-le c =
+    let n : ℕ = c .args .session .moved in
+    let b : n < 10 ^ 20 = search needs in
+    decimal-le 20 n (omega arith) b
+
+refused-le : (c : tie.Start) → length (decimalOf (c .args .session .refused)) ≤ 20
+refused-le c =
+    let n : ℕ = c .args .session .refused in
+    let b : n < 10 ^ 20 = search needs in
+    decimal-le 20 n (omega arith) b
+
+at-le : (c : tie.Start) → c .args .at ≤ length (now (c .args .text))
+at-le c = omega arith
+
+-- what is put after each call
+after1 : (c : tie.After-put-bytes) →
+    Bounded (now (start1 c .args .text)) (start1 c .args .at) 6 movedWord (c .put-bytes .result) (c .put-bytes .last .0)
+after1 c = record { put = c .put-bytes .ensures; bound = omega arith; size = c .put-bytes .kept .0 }
+
+after2 : (c : tie.After-put-decimal) →
+    Bounded (now (start2 c .args .text)) (start2 c .args .at) (6 + 20) (movedWord ++ decimalOf (start2 c .args .session .moved))
+    (c .put-decimal .result) (c .put-decimal .last .0)
+after2 c =
+    let s = start2 c in
+    let b = moved-le s in
+    let p = c .put-decimal in
+    behind (at-le s) (after1 (c .before .before .before .before)) 20 (p .ensures) (omega (arith, p .ensures .behind)) (p .kept .0)
+
+after3 : (c : tie.After-put-bytes2) →
+    Bounded (now (start3 c .args .text)) (start3 c .args .at) (6 + 20 + 9)
+    ((movedWord ++ decimalOf (start3 c .args .session .moved)) ++ (space ++ refusedWord)) (c .put-bytes2 .result) (c .put-bytes2 .last .0)
+after3 c =
+    let p = c .put-bytes2 in
+    behind (at-le (start3 c)) (after2 (c .before .before .before .before .before)) 9 (p .ensures) (omega (arith, p .ensures .behind)) (p .kept .0)
+
+after4 : (c : tie.After-put-decimal2) →
+    Bounded (now (start4 c .args .text)) (start4 c .args .at) (6 + 20 + 9 + 20)
+    (((movedWord ++ decimalOf (start4 c .args .session .moved)) ++ (space ++ refusedWord)) ++ decimalOf (start4 c .args .session .refused))
+    (c .put-decimal2 .result) (c .put-decimal2 .last .0)
+after4 c =
+    let s = start4 c in
+    let b = refused-le s in
+    let p = c .put-decimal2 in
+    behind (at-le s) (after3 (c .before .before .before .before)) 20 (p .ensures) (omega (arith, p .ensures .behind)) (p .kept .0)
+
+slice-aggregate-put-bytes : tie.Need-slice-aggregate-put-bytes
+slice-aggregate-put-bytes c = search needs
+
+put-bytes-requires : tie.Need-put-bytes-requires
+put-bytes-requires c κs = search needs
+
+put-decimal-requires : tie.Need-put-decimal-requires
+put-decimal-requires c κs =
+    let p = c .before .before .before in
+    omega (arith, after1 p, moved-le (start1 p), start1 p .pre)
+
+slice-aggregate-put-bytes-2 : tie.Need-slice-aggregate-put-bytes-2
+slice-aggregate-put-bytes-2 c = search needs
+
+put-bytes-requires-2 : tie.Need-put-bytes-requires-2
+put-bytes-requires-2 c κs =
+    let p = c .before .before .before .before in
+    omega (arith, after2 p, start2 p .pre)
+
+put-decimal-requires-2 : tie.Need-put-decimal-requires-2
+put-decimal-requires-2 c κs =
+    let p = c .before .before .before in
+    omega (arith, after3 p, refused-le (start3 p), start3 p .pre)
+
+put-byte-requires : tie.Need-put-byte-requires
+put-byte-requires c κs =
+    let p = c .before .before .before in
+    omega (arith, after4 p, start4 p .pre)
+
+same-length : tie.Need-same-length
+same-length c = search needs
+
+returns : tie.Need-returns
+unfolding closingOf
+returns c =
+    let p = c .before .before in
+    let q = p .before .before .before .before in
+    let w = behind (at-le (start4 q)) (after4 q) 1 (p .put-byte .ensures) (omega (arith, p .put-byte .ensures .behind)) (p .put-byte .kept .0) in
+    (simp append-assoc at (w .put), w .bound)
+
+pub put-closing-spec : {M : Type 1} → statement M
+put-closing-spec =
+    tie.close
+    (tie.spec
+    slice-aggregate-put-bytes
+    put-bytes-requires
+    put-decimal-requires
+    slice-aggregate-put-bytes-2
+    put-bytes-requires-2
+    put-decimal-requires-2
+    put-byte-requires
+    same-length
+    returns)

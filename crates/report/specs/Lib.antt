@@ -1,0 +1,5 @@
+pub mod Decimal
+pub mod Buffer
+pub mod Line
+pub mod Block
+pub mod Program

@@ -1,0 +1,74 @@
+-- What the program prints of its input, and how it comes to it by reads.
+use mathlib.Core.Path.{_≡_}
+use mathlib.Core.Bool.{Bool, false, cond}
+use mathlib.Core.List.{List, [], _∷_, _++_}
+use Prim.Native.Nat.{ℕ, zero, suc, _+_, _<_}
+use lib.Dec.{leb}
+use lib.ListN.{length, take}
+use Rattle.projection.specs.Refusal.{refused}
+use Rattle.record.specs.declared.session.Session.{Session}
+use Rattle.record.specs.Record.{size}
+use Rattle.record.specs.Session.{opened, feedOf, sessionAfter}
+use Rattle.record.specs.History.{Call, sessionOf}
+use Rattle.report.specs.declared.stream.Taken.{Taken}
+use Rattle.report.specs.Buffer.{Placed, putFront}
+use Rattle.report.specs.Line.{lineOf, closingOf, lineRoom, closingRoom}
+use Rattle.report.specs.Block.{recordAt, recordsIn, tailOf, blockSession, blockLines, blockFits}
+
+-- the end: the line of a tail that is not empty, which the session answers, and the closing line
+unfoldable pub endOf : Session → List ℕ → List ℕ
+endOf t [] = closingOf t
+endOf t (b ∷ bs) = let answer = feedOf t (b ∷ bs) size in lineOf answer ++ closingOf (sessionAfter t answer)
+
+-- the room of the end
+abbrev pub endRoom : ℕ
+endRoom = lineRoom + closingRoom
+
+-- the lines of all whole records, and the end
+unfoldable pub printedFrom : Session → List ℕ → List ℕ
+printedFrom t s = blockLines t s ++ endOf (blockSession t s) (tailOf s)
+
+-- what the program prints of its whole input
+unfoldable pub printedOf : List ℕ → List ℕ
+printedOf s = printedFrom opened s
+
+-- what is printed of an input that comes in pieces, each taken in behind the bytes that the one before left over
+unfoldable pub printedBy : Session → List ℕ → List (List ℕ) → List ℕ
+printedBy t rest [] = endOf t rest
+printedBy t rest (piece ∷ pieces) =
+    let s = rest ++ piece in blockLines t s ++ printedBy (blockSession t s) (tailOf s) pieces
+
+-- the pieces one after the other
+unfoldable pub joined : List (List ℕ) → List ℕ
+joined [] = []
+joined (piece ∷ pieces) = piece ++ joined pieces
+
+-- however the reads cut the input, the output is that of the whole input
+abbrev pub ReadsDoNotMatter : Type 0
+ReadsDoNotMatter = (pieces : List (List ℕ)) → printedBy opened [] pieces ≡ printedOf (joined pieces)
+
+-- a tail shorter than a record is refused by 8, and no count changes
+abbrev pub TailRefused : Type 0
+TailRefused =
+    (t : Session) (tail : List ℕ) → 0 < length tail → length tail < size → endOf t tail ≡ lineOf (refused 8) ++ closingOf t
+
+-- the calls that the first records of an input make, the latest first
+unfoldable pub callsOf : List ℕ → ℕ → List Call
+callsOf s zero = []
+callsOf s (suc count) = record { input = recordAt s count; output = size } ∷ callsOf s count
+
+-- the counts that are printed are those of the history of all whole records
+abbrev pub SessionOfHistory : Type 0
+SessionOfHistory = (s : List ℕ) → blockSession opened s ≡ sessionOf (callsOf s (recordsIn s))
+
+-- the bytes are there, and the text has the room of their lines
+abbrev pub takes : ℕ → List ℕ → List ℕ → Bool
+takes total buffer text = cond (leb total (length buffer)) (blockFits (take total buffer) text) false
+
+-- what `take_in` answers in a session t, and what the buffer and the text become: the bytes that are left over come to the
+-- buffer's front; where one of the two is too short, nothing changes
+pub record Took (t : Session) (total : ℕ) (buffer text : List ℕ) (r : Taken) (buffer′ text′ : List ℕ) : Type 0 where
+  pub session : r .session ≡ cond (takes total buffer text) (blockSession t (take total buffer)) t
+  pub held : r .held ≡ cond (takes total buffer text) (length (tailOf (take total buffer))) total
+  pub left-over : buffer′ ≡ cond (takes total buffer text) (putFront buffer (tailOf (take total buffer))) buffer
+  pub lines : Placed (takes total buffer text) (blockLines t (take total buffer)) text (r .text) text′

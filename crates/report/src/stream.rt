@@ -1,0 +1,91 @@
+// A stream of bytes that comes in pieces, and its last lines.
+ghost use mathlib.Core.Path.{_≡_};
+ghost use mathlib.Core.List.{_++_};
+ghost use Prim.Native.Nat.{_-_, _≤_};
+ghost use lib.Dec.{leb};
+ghost use lib.ListN.{length, take, drop};
+ghost use Rattle.report.specs.Buffer.{Placed};
+ghost use Rattle.report.specs.Program.{Took, endRoom, endOf};
+use super::block::RECORD;
+use super::block::convert_block;
+use super::buffer::Text;
+use super::line::CLOSING_ROOM;
+use super::line::LINE_ROOM;
+use super::line::put_closing;
+use super::line::put_line;
+use record::Session;
+
+// What the bytes of a read came to: the session after them, how many are held over at the front of the buffer, and the
+// lines.
+pub struct Taken {
+    pub session: Session,
+    pub held: usize,
+    pub text: Text,
+}
+
+// Feeds the whole records among the first `total` bytes of the buffer, puts their lines at the front of the text, and
+// brings the bytes behind them to the front of the buffer. Where the buffer or the text is too short, nothing changes.
+pub fn take_in(session: Session, total: usize, buffer: &mut [u8], text: &mut [u8]) -> Taken
+    ensures { λ r. ⌜ Took session total (now (buffer .entry)) (now (text .entry)) r (now (buffer .exit)) (now (text .exit)) ⌝ }
+{
+    if buffer.len() < total {
+        return Taken {
+            session,
+            held: total,
+            text: Text::TooShort,
+        };
+    }
+    let block = convert_block(session, &buffer[..total], text);
+    let next = block.session;
+    let lines = block.text;
+    match lines {
+        Text::Bytes(_) => {
+            let held = total % RECORD;
+            bring(buffer, total - held, total);
+            Taken {
+                session: next,
+                held,
+                text: lines,
+            }
+        }
+        Text::TooShort => Taken {
+            session: next,
+            held: total,
+            text: lines,
+        },
+    }
+}
+
+// Brings the bytes from one place up to another to the front.
+fn bring(buffer: &mut [u8], from: usize, to: usize)
+    requires { ⌜ (from ≤ to) × (to ≤ length (now buffer)) ⌝ }
+    ensures { λ _. ⌜ now (buffer .exit) ≡ drop from (take to (now (buffer .entry))) ++ drop (to - from) (now (buffer .entry)) ⌝ }
+{
+    let mut i = 0;
+    let mut j = from;
+    while j < to {
+        buffer[i] = buffer[j];
+        i += 1;
+        j += 1;
+    }
+}
+
+// Puts the last lines at the front of the text: the line of a tail that is not empty, and the closing line.
+pub fn last_lines(session: Session, tail: &[u8], text: &mut [u8]) -> Text
+    ensures { λ r. ⌜ Placed (leb endRoom (length (now (text .entry)))) (endOf session (now (tail .entry))) (now (text .entry)) r (now (text .exit)) ⌝ }
+{
+    if text.len() < LINE_ROOM + CLOSING_ROOM {
+        return Text::TooShort;
+    }
+    if tail.len() == 0 {
+        let end = put_closing(text, 0, session);
+        return Text::Bytes(end);
+    }
+    let mut output = [0u8; RECORD];
+    let fed = session.feed(tail, &mut output);
+    let answer = fed.answer;
+    let next = fed.session;
+    let line = put_line(text, 0, answer);
+    let end = put_closing(text, line, next);
+    Text::Bytes(end)
+}
