@@ -4,19 +4,24 @@ ghost use Prim.Native.Nat.{_<_};
 ghost use Rattle.record.specs.Record.{size};
 ghost use Rattle.report.specs.Buffer.{Within};
 ghost use Rattle.convert.specs.Room.{Room};
+use record::SIZE;
 use record::Session;
+use report::LINE_ROOM;
 use report::Text;
 use report::last_lines;
 use report::take_in;
 
+// The records of a read.
+const RECORDS: usize = 4096;
+
 // The bytes of a read.
-const READ: usize = 65536;
+const READ: usize = SIZE * RECORDS;
 
 // Room for the bytes of a read behind those held over, which are fewer than a record.
-const BUFFER: usize = 16 + READ;
+const BUFFER: usize = SIZE + READ;
 
-// Room for the lines of 4,096 records, the most that the buffer then has.
-const TEXT: usize = 24 * 4096;
+// Room for the lines of a read: with the bytes held over it has no more whole records.
+const TEXT: usize = LINE_ROOM * RECORDS;
 
 enum Phase {
     Reading,

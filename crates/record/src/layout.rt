@@ -5,7 +5,8 @@ ghost use Rattle.record.specs.Record.{size, otherForm, recordOf, hasMark
 ghost use Rattle.record.specs.Refusal.{bothOfSize};
 use little_endian::put;
 
-pub(crate) const SIZE: usize = 16;
+// The length of a record.
+pub const SIZE: usize = 16;
 
 const MARK: [u8; 2] = [0x4D, 0xD2];
 

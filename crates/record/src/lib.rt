@@ -4,5 +4,6 @@ mod layout;
 mod session;
 
 pub use convert::convert_record;
+pub use layout::SIZE;
 pub use session::Fed;
 pub use session::Session;

@@ -3,10 +3,8 @@ ghost use Rattle.report.specs.Block.{Converted};
 use super::buffer::Text;
 use super::line::LINE_ROOM;
 use super::line::put_line;
+use record::SIZE;
 use record::Session;
-
-// The length of a record.
-pub(crate) const RECORD: usize = 16;
 
 // What a block came to: the session after it, and its lines.
 pub struct Block {
@@ -19,20 +17,20 @@ pub struct Block {
 pub fn convert_block(session: Session, input: &[u8], text: &mut [u8]) -> Block
     ensures { λ r. ⌜ Converted session (now (input .entry)) (now (text .entry)) r (now (text .exit)) ⌝ }
 {
-    let count = input.len() / RECORD;
+    let count = input.len() / SIZE;
     if text.len() / LINE_ROOM < count {
         return Block {
             session,
             text: Text::TooShort,
         };
     }
-    let mut output = [0u8; RECORD];
+    let mut output = [0u8; SIZE];
     let mut state = session;
     let mut end = 0;
     let mut i = 0;
     while i < count {
-        let from = RECORD * i;
-        let fed = state.feed(&input[from..from + RECORD], &mut output);
+        let from = SIZE * i;
+        let fed = state.feed(&input[from..from + SIZE], &mut output);
         state = fed.session;
         let answer = fed.answer;
         end = put_line(text, end, answer);

@@ -8,6 +8,8 @@ mod stream;
 pub use block::Block;
 pub use block::convert_block;
 pub use buffer::Text;
+pub use line::CLOSING_ROOM;
+pub use line::LINE_ROOM;
 pub use line::answer_line;
 pub use line::closing_line;
 pub use stream::Taken;

@@ -14,10 +14,10 @@ use projection::Answer;
 use record::Session;
 
 // The room for a line: two numbers of 11 bytes, a space and a line feed.
-pub(crate) const LINE_ROOM: usize = 24;
+pub const LINE_ROOM: usize = 24;
 
 // The room for the closing line: two counts of 20 digits, and 16 bytes of words, spaces and a line feed.
-pub(crate) const CLOSING_ROOM: usize = 56;
+pub const CLOSING_ROOM: usize = 56;
 
 // Puts the line of an answer at the front of the text.
 pub fn answer_line(answer: Answer, text: &mut [u8]) -> Text

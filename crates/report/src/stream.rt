@@ -6,13 +6,13 @@ ghost use lib.Dec.{leb};
 ghost use lib.ListN.{length, take, drop};
 ghost use Rattle.report.specs.Buffer.{Placed};
 ghost use Rattle.report.specs.Program.{Took, endRoom, endOf};
-use super::block::RECORD;
 use super::block::convert_block;
 use super::buffer::Text;
 use super::line::CLOSING_ROOM;
 use super::line::LINE_ROOM;
 use super::line::put_closing;
 use super::line::put_line;
+use record::SIZE;
 use record::Session;
 
 // What the bytes of a read came to: the session after them, how many are held over at the front of the buffer, and the
@@ -40,7 +40,7 @@ pub fn take_in(session: Session, total: usize, buffer: &mut [u8], text: &mut [u8
     let lines = block.text;
     match lines {
         Text::Bytes(_) => {
-            let held = total % RECORD;
+            let held = total % SIZE;
             bring(buffer, total - held, total);
             Taken {
                 session: next,
@@ -81,7 +81,7 @@ pub fn last_lines(session: Session, tail: &[u8], text: &mut [u8]) -> Text
         let end = put_closing(text, 0, session);
         return Text::Bytes(end);
     }
-    let mut output = [0u8; RECORD];
+    let mut output = [0u8; SIZE];
     let fed = session.feed(tail, &mut output);
     let answer = fed.answer;
     let next = fed.session;
