@@ -1,6 +1,6 @@
 -- `report::line::put_closing` meets its contract: each piece is put behind those before it.
 use mathlib.Core.List.{_++_, append-assoc}
-use Prim.Native.Nat.{ℕ, _+_, _^_, _≤_, _<_}
+use Prim.Native.Nat.{_+_, _^_, _≤_, _<_}
 use native.Mathlib.Omega.{arith}
 use borrow.Author.Needs.{needs}
 use denote.Ref.{now}
@@ -29,17 +29,15 @@ abbrev start5 : tie.After-put-byte → tie.Start
 start5 c = start4 (c .before .before .before .before)
 
 -- a count has 20 digits at most
-moved-le : (c : tie.Start) → length (decimalOf (c .args .session .moved)) ≤ 20
-moved-le c =
-    let n : ℕ = c .args .session .moved in
-    let b : n < 10 ^ 20 = search needs in
-    decimal-le 20 n (omega arith) b
+record Short (c : tie.Start) : Type 0 where
+  moved : length (decimalOf (c .args .session .moved)) ≤ 20
+  refused : length (decimalOf (c .args .session .refused)) ≤ 20
 
-refused-le : (c : tie.Start) → length (decimalOf (c .args .session .refused)) ≤ 20
-refused-le c =
-    let n : ℕ = c .args .session .refused in
-    let b : n < 10 ^ 20 = search needs in
-    decimal-le 20 n (omega arith) b
+short : (c : tie.Start) → Short c
+short c =
+    let a : c .args .session .moved < 10 ^ 20 = search needs in
+    let b : c .args .session .refused < 10 ^ 20 = search needs in
+    record { moved = decimal-le 20 _ (omega arith) a; refused = decimal-le 20 _ (omega arith) b }
 
 at-le : (c : tie.Start) → c .args .at ≤ length (now (c .args .text))
 at-le c = omega arith
@@ -54,7 +52,7 @@ after2 : (c : tie.After-put-decimal) →
     (c .put-decimal .result) (c .put-decimal .last .0)
 after2 c =
     let s = start2 c in
-    let b = moved-le s in
+    let b = short s in
     let p = c .put-decimal in
     behind (at-le s) (after1 (c .before .before .before .before)) 20 (p .ensures) (omega (arith, p .ensures .behind)) (p .kept .0)
 
@@ -71,7 +69,7 @@ after4 : (c : tie.After-put-decimal2) →
     (c .put-decimal2 .result) (c .put-decimal2 .last .0)
 after4 c =
     let s = start4 c in
-    let b = refused-le s in
+    let b = short s in
     let p = c .put-decimal2 in
     behind (at-le s) (after3 (c .before .before .before .before)) 20 (p .ensures) (omega (arith, p .ensures .behind)) (p .kept .0)
 
@@ -84,7 +82,7 @@ put-bytes-requires c κs = search needs
 put-decimal-requires : tie.Need-put-decimal-requires
 put-decimal-requires c κs =
     let p = c .before .before .before in
-    omega (arith, after1 p, moved-le (start1 p), start1 p .pre)
+    omega (arith, after1 p, short (start1 p), start1 p .pre)
 
 slice-aggregate-put-bytes-2 : tie.Need-slice-aggregate-put-bytes-2
 slice-aggregate-put-bytes-2 c = search needs
@@ -97,7 +95,7 @@ put-bytes-requires-2 c κs =
 put-decimal-requires-2 : tie.Need-put-decimal-requires-2
 put-decimal-requires-2 c κs =
     let p = c .before .before .before in
-    omega (arith, after3 p, refused-le (start3 p), start3 p .pre)
+    omega (arith, after3 p, short (start3 p), start3 p .pre)
 
 put-byte-requires : tie.Need-put-byte-requires
 put-byte-requires c κs =
