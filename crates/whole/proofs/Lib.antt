@@ -2,4 +2,5 @@ pub mod Products
 pub mod Rounding
 pub mod Scales
 pub mod Squares
+pub mod Newton
 pub mod Signs

@@ -1,7 +1,8 @@
 // Whole numbers: rounding to the nearest, the floor of a square root, and a signed number as its sign and its size.
 ghost use mathlib.Core.Path.{_≡_};
 ghost use Rattle.whole.specs.Nearest.{nearest as nearestOf};
-ghost use Rattle.whole.specs.Root.{root as rootOf};
+ghost use Prim.Native.Nat.{_≤_};
+ghost use Rattle.whole.specs.Root.{root as rootOf, mostRoot};
 ghost use Rattle.whole.specs.Signed.{splitOf, joinOf, plus as plusOf, minus as minusOf};
 
 // The whole number nearest to n / d; a quotient by 0 counts as 0.
@@ -16,20 +17,28 @@ pub fn nearest(n: u64, d: u64) -> u64
     if d - r <= r { q + 1 } else { q }
 }
 
-// The floor of the square root of n, a binary digit a turn, the highest first.
+// The greatest root of 64 bits.
+const MOST_ROOT: u64 = 4294967295;
+
+// The floor of the square root of n, by Newton's method: from a number that is not below the root, each step falls and is
+// not below it either.
 pub fn root(n: u64) -> u64
     ensures { λ r. ⌜ r ≡ rootOf n ⌝ }
 {
-    let mut r: u64 = 0;
-    let mut k: u32 = 32;
-    while 0 < k {
-        k -= 1;
-        let next = r + (1 << k);
-        if next * next <= n {
-            r = next;
-        }
+    let mut r = root_or_above(n);
+    while n < r * r {
+        r = (r + n / r) / 2;
     }
     r
+}
+
+// A number near the root of n and not below it: a step from a power of two near it, by which a quotient is a shift.
+fn root_or_above(n: u64) -> u64
+    ensures { λ r. ⌜ (rootOf n ≤ r) × (r ≤ mostRoot) ⌝ }
+{
+    let k = (65 - u64::leading_zeros(n)) / 2;
+    let r = (1u64 << k) / 2 + (n >> k) / 2 + 1;
+    if r < MOST_ROOT { r } else { MOST_ROOT }
 }
 
 // A signed number as its sign and its size. 0 may have either sign.
