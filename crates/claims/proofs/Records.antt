@@ -25,7 +25,7 @@ use Rattle.record.specs.Answer.{judgedOf, outputAfter}
 use Rattle.record.proofs.Orders.{judged-9, judged-10, judged-position, judged-place, mark-bytes, sizes, written}
 use Rattle.record.proofs.Stored.{central-in, first-in, second-in, position-read, place-read}
 use Rattle.claims.specs.Demand3.{Demand3, numbers, Alike, TurnedX, TurnedY, SamePosition, ClosePlace, Shares}
-use Rattle.claims.specs.RecordLaws.{Handing, SameHead, TurnedEast, TurnedNorth, OtherLongitude, FedOn, SharedRecord, RecordLaws}
+use Rattle.claims.specs.RecordLaws.{Handing, SameHead, TurnedEast, TurnedNorth, withLongitude, OtherLongitude, FedOn, SharedRecord, RecordLaws}
 use Rattle.claims.proofs.Refusals.{not-both}
 use Rattle.claims.proofs.Accepted as Accepted
 use Rattle.claims.proofs.Small.{place-small, position-small}
@@ -144,10 +144,8 @@ module _ (h : Handing) (a : Answers h) where
 
   -- one of two positions that share a place, as a record like s
   record Like (t : h .State) (s : List ℕ) (output : ℕ) (l : ℤ) (p : ℤ × ℤ) : Type 0 where
-    like : OtherLongitude s (recordOf (kindIn s) position (centralIn s) l (secondIn s))
-    longitude : firstIn (recordOf (kindIn s) position (centralIn s) l (secondIn s)) ≡ l
-    central : centralIn (recordOf (kindIn s) position (centralIn s) l (secondIn s)) ≡ centralIn s
-    accepted : h .answer t (recordOf (kindIn s) position (centralIn s) l (secondIn s)) output ≡ given p
+    like : OtherLongitude s (withLongitude s l) l
+    accepted : h .answer t (withLongitude s l) output ≡ given p
 
   module _ (t : h .State) (s : List ℕ) (output : ℕ) (is : length s ≡ size) (os : output ≡ size) (room : h .isFull t ≡ false)
       (head : take 4 s ≡ mark ++ (kindIn s ∷ position ∷ [])) where
@@ -158,18 +156,16 @@ module _ (h : Handing) (a : Answers h) where
         let fc = in-32 (centralIn s) (omega (arith, k .c-le)) in
         let fl = in-32 l (omega (arith, k .l-le)) in
         let ff = in-32 (secondIn s) (omega (arith, k .f-le)) in
-        let central = central-in (kindIn s) position (centralIn s) l (secondIn s) fc in
         record {
           like =
               record {
                 head = record { length-same = sym is; head-same = sym head };
-                central = central;
+                central = central-in (kindIn s) position (centralIn s) l (secondIn s) fc;
+                longitude = first-in (kindIn s) position (centralIn s) l (secondIn s) fl;
                 latitude = second-in (kindIn s) position (centralIn s) l (secondIn s) ff;
               };
-          longitude = first-in (kindIn s) position (centralIn s) l (secondIn s) fl;
-          central = central;
           accepted =
-              a .judged t (recordOf (kindIn s) position (centralIn s) l (secondIn s)) output (eq-eqb output size os) room
+              a .judged t (withLongitude s l) output (eq-eqb output size os) room
               ∙ position-read (kindIn s) fc fl ff ∙ e;
         }
 
@@ -180,15 +176,15 @@ module _ (h : Handing) (a : Answers h) where
         let i = alike-at (r .first) (r .place₁) (r .accepted₁) in
         let j = alike-at (r .second) (r .place₁) (r .accepted₂ ∙ ap given same) in
         record {
-          first = recordOf (kindIn s) position (centralIn s) (r .first) (secondIn s);
-          second = recordOf (kindIn s) position (centralIn s) (r .second) (secondIn s);
+          first = r .first;
+          second = r .second;
+          different = r .different;
           first-like = i .like;
           second-like = j .like;
-          different = λ m. r .different (rw (i .longitude, j .longitude) at m);
           place = r .place₁;
           accepted₁ = i .accepted;
           accepted₂ = j .accepted;
-          same-record = rw (i .central, j .central);
+          same-record = rw (i .like .central, j .like .central);
         }
 
   module _ (d : Demand3 numbers) where

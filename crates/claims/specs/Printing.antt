@@ -1,4 +1,5 @@
--- What the program prints is its whole input's, however it was read, and the text is what it should be.
+-- What is printed of an input by `take_in` and `last_lines`: that of the whole input, whatever pieces it comes in, in text that is
+-- what it should be. Reading the pieces and writing the text is the program's.
 use mathlib.Core.List.{List, [], _∷_, _++_}
 use mathlib.Core.Path.{_≡_}
 use Prim.Native.Nat.{ℕ}

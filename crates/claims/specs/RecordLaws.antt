@@ -11,7 +11,7 @@ use Rattle.projection.specs.Table.{rowOf}
 use Rattle.projection.specs.Parallel.{halfWidth}
 use Rattle.projection.specs.Refusal.{Outcome, refused, given}
 use Rattle.record.specs.declared.session.Session.{Session}
-use Rattle.record.specs.Record.{size, position, place, kindIn, formIn, centralIn, firstIn, secondIn, movedOf}
+use Rattle.record.specs.Record.{size, position, place, recordOf, kindIn, formIn, centralIn, firstIn, secondIn, movedOf}
 use Rattle.record.specs.Answer.{convertOf, outputAfter}
 use Rattle.record.specs.Session.{isFull, feedOf}
 use Rattle.claims.specs.Demand3.{numbers, OneMeridian, Alike, TurnedX, TurnedY, SamePosition, ClosePlace}
@@ -49,10 +49,15 @@ pub record TurnedNorth (s t : List ℕ) : Type 0 where
   pub longitude : firstIn t ≡ firstIn s
   pub latitude : secondIn t ≡ negℤ (secondIn s)
 
--- t is s but for the longitude
-pub record OtherLongitude (s t : List ℕ) : Type 0 where
+-- a position's record, written with another longitude
+abbrev pub withLongitude : List ℕ → ℤ → List ℕ
+withLongitude s l = recordOf (kindIn s) position (centralIn s) l (secondIn s)
+
+-- t is s but for the longitude, which is l
+pub record OtherLongitude (s t : List ℕ) (l : ℤ) : Type 0 where
   pub head : SameHead s t
   pub central : centralIn t ≡ centralIn s
+  pub longitude : firstIn t ≡ l
   pub latitude : secondIn t ≡ secondIn s
 
 module _ (h : Handing) where
@@ -64,17 +69,17 @@ module _ (h : Handing) where
     pub nothing-else : (n : ℕ) → h .answer t bytes output ≡ refused n → (n ≡ 8) ⊎ (n ≡ 11)
     pub accepted : output ≡ size → h .isFull t ≡ false → (q : ℤ × ℤ) × (h .answer t bytes output ≡ given q) × P q
 
-  -- two records that differ from s in longitude alone, by two different meridians, are moved to one and the same record
+  -- two different meridians, by which alone the records differ from s, are moved to one and the same record
   pub record SharedRecord (t : h .State) (s : List ℕ) (output : ℕ) : Type 0 where
-    pub first : List ℕ
-    pub second : List ℕ
-    pub first-like : OtherLongitude s first
-    pub second-like : OtherLongitude s second
-    pub different : OneMeridian (firstIn first) (firstIn second) → ⊥
+    pub first : ℤ
+    pub second : ℤ
+    pub different : OneMeridian first second → ⊥
+    pub first-like : OtherLongitude s (withLongitude s first) first
+    pub second-like : OtherLongitude s (withLongitude s second) second
     pub place : ℤ × ℤ
-    pub accepted₁ : h .answer t first output ≡ given place
-    pub accepted₂ : h .answer t second output ≡ given place
-    pub same-record : movedOf first place ≡ movedOf second place
+    pub accepted₁ : h .answer t (withLongitude s first) output ≡ given place
+    pub accepted₂ : h .answer t (withLongitude s second) output ≡ given place
+    pub same-record : movedOf (withLongitude s first) place ≡ movedOf (withLongitude s second) place
 
   -- a record whose form is not 1 is a position, or refused by 10 or earlier
   pub record RecordLaws : Type 0 where

@@ -1,8 +1,10 @@
 // Reads records from standard input to its end, and prints the line of each and the counts. What becomes of the bytes of a
 // read is `report::take_in`, and what is printed at the end `report::last_lines`; here bytes are only moved.
+ghost use mathlib.Core.Path.{_≡_};
 ghost use Prim.Native.Nat.{_<_};
 ghost use Rattle.record.specs.Record.{size};
 ghost use Rattle.report.specs.Buffer.{Within};
+ghost use Rattle.convert.specs.Phase.{afterError, afterWrite, NotEnded};
 ghost use Rattle.convert.specs.Room.{Room};
 use record::SIZE;
 use record::Session;
@@ -84,7 +86,7 @@ fn turn(state: State, buffer: &mut [u8], text: &mut [u8]) -> State
         return State {
             session,
             held,
-            phase: after_error(),
+            phase: after_error(os::errno()),
         };
     }
     if got == 0 {
@@ -105,28 +107,35 @@ fn turn(state: State, buffer: &mut [u8], text: &mut [u8]) -> State
     }
 }
 
-// A read that a signal interrupted is tried again. Any other error is not the end of the input.
-fn after_error() -> Phase {
-    if os::errno() == libc::EINTR {
+// After a read that failed, by the error's number.
+fn after_error(error: i32) -> Phase
+    ensures { λ r. ⌜ r ≡ afterError error ⌝ }
+{
+    if error == libc::EINTR {
         return Phase::Reading;
     }
     os::fail(b"convert: standard input");
     Phase::Failed
 }
 
-// Writes the lines that stand at the front of the text.
+// After a write, or one that failed.
+fn after_write(written: bool) -> Phase
+    ensures { λ r. ⌜ r ≡ afterWrite written ⌝ }
+{
+    if written {
+        return Phase::Reading;
+    }
+    os::fail(b"convert: standard output");
+    Phase::Failed
+}
+
+// Writes the lines that stand at the front of the text. `Room` has room for them all.
 fn print(lines: Text, text: &[u8]) -> Phase
     requires { ⌜ Within lines (now text) ⌝ }
+    ensures { λ r. ⌜ NotEnded r ⌝ }
 {
     match lines {
-        Text::Bytes(end) => {
-            if io::write_all(libc::STDOUT_FILENO, &text[..end]) {
-                return Phase::Reading;
-            }
-            os::fail(b"convert: standard output");
-            Phase::Failed
-        }
-        // Not with the room that `Room` names.
+        Text::Bytes(end) => after_write(io::write_all(libc::STDOUT_FILENO, &text[..end])),
         Text::TooShort => Phase::Failed,
     }
 }

@@ -1,9 +1,9 @@
 -- `claims::hold` meets its contract: each claim, by its law.
 use mathlib.Core.Bool.{true, false}
 use mathlib.Core.Path.{_≡_, refl, sym, _∙_}
-use Prim.Native.Nat.{ℕ, suc, _*_, _^_, _≤_}
+use Prim.Native.Nat.{ℕ, suc, _+_, _*_, _^_, _≤_}
 use native.Mathlib.Omega.{arith}
-use borrow.Author.Tests.{le-leb}
+use borrow.Author.Tests.{le-leb, leb-true}
 use lib.Dec.{T, le→leb}
 use lib.Ieee.{binary64, div, ofInt, round}
 use lib.Ieee.Back.{round-whole}
@@ -34,7 +34,7 @@ use Rattle.degrees.proofs.Written.{degrees-stand, units-stand}
 use Rattle.little_endian.specs.Number.{bytesOf, numberAt}
 use Rattle.record.specs.Record.{recordOf, movedOf}
 use Rattle.record.specs.Answer.{pairOrder, pairOf, convertOrder, convertOf, outputAfter}
-use Rattle.record.specs.Session.{opened, feedOrder, feedOf, sessionAfter}
+use Rattle.record.specs.Session.{opened, cap, feedOrder, feedOf, sessionAfter}
 use Rattle.record.specs.History.{answersOf, sessionOf}
 use Rattle.record.proofs.Orders.{converted, fed}
 use Rattle.record.proofs.Histories.{answers-alike, agrees}
@@ -122,6 +122,7 @@ histories =
     record {
       moved-is = λ calls. agrees calls .moved;
       refused-is = λ calls. agrees calls .refused;
+      full-from = λ session. let n = session .moved + session .refused in (leb-true cap n, le-leb cap n);
       kept-by-8 = λ session. refl;
       kept-by-11 = λ session. refl;
       answered = λ call earlier. answers-alike (sessionOf earlier) (answersOf earlier) call (agrees earlier);

@@ -1,6 +1,7 @@
--- `convert::print` meets its contract: what is written stands in the text.
-use mathlib.Core.Path.{_≡_}
+-- `convert::print` meets its contract: what is written stands in the text, and no write is the end of the input.
+use mathlib.Core.Bool.{Bool, true, false}
 use mathlib.Core.List.{List}
+use mathlib.Core.Path.{_≡_, sym, subst}
 use Prim.Native.Nat.{ℕ}
 use borrow.Author.Needs.{needs}
 use denote.Ref.{now}
@@ -8,11 +9,16 @@ use lib.ListN.{length, take}
 use Rattle.report.specs.declared.buffer.Text.{Text}
 use Rattle.report.specs.declared.buffer.Text.the-variants.{Bytes}
 use Rattle.report.specs.Buffer.{Within}
+use Rattle.convert.specs.Phase.{afterWrite, NotEnded}
 use Rattle.convert.proofs.print.Statement.{statement}
 use Rattle.convert.proofs.print.Tie as tie
 
 lent : (lines : Text) (end : ℕ) (text : List ℕ) → lines ≡ Bytes end → Within lines text → end ≡ length (take end text)
 lent lines end text e w = let h : Within (Bytes end) text = rw e at w in h .1
+
+not-ended : (written : Bool) → NotEnded (afterWrite written)
+not-ended true = tt
+not-ended false = tt
 
 enum-known-lines : tie.Need-enum-known-lines
 enum-known-lines c = search needs
@@ -26,23 +32,17 @@ slice-aggregate-write-all c =
 write-all-requires : tie.Need-write-all-requires
 write-all-requires c κs = search needs
 
-returns : tie.Need-returns
-returns c = search needs
-
-slice-aggregate-fail : tie.Need-slice-aggregate-fail
-slice-aggregate-fail c = search needs
-
-fail-requires : tie.Need-fail-requires
-fail-requires c κs = search needs
+after-write-requires : tie.Need-after-write-requires
+after-write-requires c κs = search needs
 
 enum-told : tie.Need-enum-told
 enum-told c = search needs
 
+returns : tie.Need-returns
+returns c = subst NotEnded (sym (c .after-write .ensures)) (not-ended (c .before .write-all .result))
+
 returns-2 : tie.Need-returns-2
 returns-2 c = search needs
-
-returns-3 : tie.Need-returns-3
-returns-3 c = search needs
 
 pub print-spec : {M : Type 1} → statement M
 print-spec =
@@ -51,9 +51,7 @@ print-spec =
     enum-known-lines
     slice-aggregate-write-all
     write-all-requires
-    returns
-    slice-aggregate-fail
-    fail-requires
+    after-write-requires
     enum-told
-    returns-2
-    returns-3)
+    returns
+    returns-2)

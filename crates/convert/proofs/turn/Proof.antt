@@ -27,6 +27,9 @@ part-read-end c = search needs
 read-requires : tie.Need-read-requires
 read-requires c κs = search needs
 
+errno-requires : tie.Need-errno-requires
+errno-requires c κs = search needs
+
 after-error-requires : tie.Need-after-error-requires
 after-error-requires c κs = search needs
 
@@ -87,6 +90,7 @@ turn-spec =
     part-read-start
     part-read-end
     read-requires
+    errno-requires
     after-error-requires
     same-length
     returns
