@@ -14,8 +14,6 @@ use mir.Syntax.{w32}
 use mir.Val.{SFits}
 use Rattle.whole.proofs.Signs.{fits}
 use Rattle.projection.specs.Angle.{N}
-use Rattle.projection.specs.Table.{rowOf}
-use Rattle.projection.specs.Parallel.{halfWidth}
 use Rattle.projection.specs.Refusal.{refused, given}
 use Rattle.projection.specs.Answer.{forwardOf, inverseOf}
 use Rattle.little_endian.specs.Number.{bytesOf}
@@ -235,22 +233,17 @@ module _ (h : Handing) (a : Answers h) where
         (judged-alike s s' (k .head) (TurnedY numbers) n
         (rw (k .central, k .longitude) (d .turning-y (kindIn s) (centralIn s) (firstIn s) (secondIn s) (secondIn s') (k .latitude))))
 
-    sharing : (t : h .State) (s : List ℕ) (output : ℕ) (p : ℤ × ℤ) → formIn s ≡ position → h .answer t s output ≡ given p →
-        halfWidth (rowOf (kindIn s)) (natAbs (secondIn s)) < N → SharedRecord h t s output
-    sharing t s output p f e w =
-        let v = converted-as h a t s output p e in
-        let l = sizes (length s) output (ap not (v .pieces)) in
-        let n = on-position s p f (v .record-is) in
-        let head = four-bytes s (omega (arith, l .0)) (marked s p (v .record-is)) f in
-        shared t s output (l .0) (l .1) (v .room) head
-        (d .sharing (kindIn s) (centralIn s) (firstIn s) (secondIn s) p n w)
-
     pub records-by-numbers : RecordLaws h
     records-by-numbers =
         record {
           turning-x = turning-x;
           turning-y = turning-y;
           forward-back = forward-back;
-          sharing = sharing;
+          sharing = λ t s output p f e w.
+              let v = converted-as h a t s output p e in
+              let l = sizes (length s) output (ap not (v .pieces)) in
+              let n = on-position s p f (v .record-is) in
+              shared t s output (l .0) (l .1) (v .room) (four-bytes s (omega (arith, l .0)) (marked s p (v .record-is)) f)
+              (d .sharing (kindIn s) (centralIn s) (firstIn s) (secondIn s) p n w);
           back-forward = back-forward;
         }

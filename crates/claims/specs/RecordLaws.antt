@@ -62,7 +62,7 @@ pub record OtherLongitude (s t : List ℕ) (l : ℤ) : Type 0 where
 
 module _ (h : Handing) where
   -- a moved record fed on, with any session and any output piece: refused by 8 exactly when the piece is not of 16 bytes, by
-  -- 11 exactly when the session is full, by nothing else; and what is answered then stands in P
+  -- 11 exactly when it is and the session is full, by nothing else; else it is accepted, and the answer stands in P
   pub record FedOn (bytes : List ℕ) (P : ℤ × ℤ → Type 0) (t : h .State) (output : ℕ) : Type 0 where
     pub by-8 : (h .answer t bytes output ≡ refused 8) ↔ (output ≢ size)
     pub by-11 : (h .answer t bytes output ≡ refused 11) ↔ ((output ≡ size) × (h .isFull t ≡ true))

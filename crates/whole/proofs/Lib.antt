@@ -3,4 +3,5 @@ pub mod Rounding
 pub mod Scales
 pub mod Squares
 pub mod Newton
+pub mod Tests
 pub mod Signs
