@@ -12,3 +12,4 @@ pub mod Small
 pub mod Floats
 pub mod Pieces
 pub mod Records
+pub mod Statuses

@@ -8,5 +8,6 @@ pub mod Written
 pub mod Examples
 pub mod RecordExample
 pub mod Printing
+pub mod Interface
 pub mod Arithmetic
 pub mod ExactRoot

@@ -2,11 +2,12 @@
 ghost use Rattle.claims.specs.Arithmetic.{Arithmetic};
 ghost use Rattle.claims.specs.Demands.{Demands};
 ghost use Rattle.claims.specs.Examples.{Examples};
+ghost use Rattle.claims.specs.Interface.{Interface};
 ghost use Rattle.claims.specs.Printing.{Printing};
 ghost use Rattle.claims.specs.RecordExample.{RecordExample};
 ghost use Rattle.claims.specs.Written.{Written};
 
 // Does nothing. Its `ensures` is the product of all claims.
 pub fn hold()
-    ensures { λ _. ⌜ Demands × Examples × RecordExample × Arithmetic × Written × Printing ⌝ }
+    ensures { λ _. ⌜ Demands × Examples × RecordExample × Arithmetic × Written × Printing × Interface ⌝ }
 {}

@@ -1,5 +1,6 @@
 -- The answer of each call, refusal by refusal in its order.
-use mathlib.Core.Bool.{true, false}
+use mathlib.Core.Bool.{Bool, true, false, cond}
+use mathlib.Core.List.{List, [], _∷_}
 use mathlib.Core.Path.{_≡_}
 use Prim.Native.Nat.{ℕ}
 use lib.IntN.{ℤ, natAbs}
@@ -8,7 +9,7 @@ use Rattle.projection.specs.Table.{rowOf}
 use Rattle.projection.specs.Parallel.{halfWidth}
 use Rattle.projection.specs.Forward.{placeOf}
 use Rattle.projection.specs.Inverse.{positionOf}
-use Rattle.projection.specs.Refusal.{Refusal, refused, given, unless, badKind, badCentral, badLongitude, badLatitude, badY, badX}
+use Rattle.projection.specs.Refusal.{Refusal, refused, given, OfNumber, unless, badKind, badCentral, badLongitude, badLatitude, badY, badX}
 use Rattle.projection.specs.Answer.{widthOf, forwardOf, onRow, inverseOf}
 
 -- a refusal applies, or not
@@ -17,6 +18,21 @@ Applies r = r .applies ≡ true
 
 abbrev pub Passes : Refusal → Type 0
 Passes r = r .applies ≡ false
+
+-- what holds of every number of an order
+abbrev pub OfNumbers : (ℕ → Type 0) → List Refusal → Type 0
+OfNumbers P [] = Unit {0}
+OfNumbers P (r ∷ rs) = P (r .number) × OfNumbers P rs
+
+-- holds of the number that the order refuses by
+pub unless-number : {A : Type 0} (P : ℕ → Type 0) (order : List Refusal) (a : A) → OfNumbers P order → OfNumber P (unless order a)
+unfolding unless
+unless-number P [] a h = tt
+unless-number P (r ∷ rs) a h = go (r .applies) (unless-number P rs a (h .1))
+  where
+    go : (b : Bool) → OfNumber P (unless rs a) → OfNumber P (cond b (refused (r .number)) (unless rs a))
+    go true k = h .0
+    go false k = k
 
 module _ (kind : ℕ) (latitude : ℤ) where
   pub width-1 : Applies (badKind kind) → refused 1 ≡ widthOf kind latitude

@@ -20,6 +20,11 @@ pub data Outcome (A : Type 0) : Type 0 where
   refused : ℕ → Outcome A
   given : A → Outcome A
 
+-- what holds of the number where an answer is a refusal
+abbrev pub OfNumber : {A : Type 0} → (ℕ → Type 0) → Outcome A → Type 0
+OfNumber P (refused n) = P n
+OfNumber P (given a) = Unit {0}
+
 -- the first refusal that applies, or else a
 unfoldable pub unless : {A : Type 0} → List Refusal → A → Outcome A
 unless [] a = given a

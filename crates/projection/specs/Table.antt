@@ -31,7 +31,7 @@ rows =
 
 -- what stands past the table's end
 abbrev pub noRow : Row
-noRow = row 0 0 (pos 0) (pos 0) (pos 0) Unused
+noRow = row 0 0 (pos 0) (pos 0) (pos 0) Root
 
 -- the row of a kind, kinds being counted from 1; 0, which no call asks for, finds the first
 unfoldable pub rowOf : ℕ → Row

@@ -33,11 +33,12 @@ fn less(east: u64, west: u64) -> Signed
     requires { ⌜ (east ≤ 2 * N) × (west ≤ 2 * N) ⌝ }
     ensures { λ r. ⌜ joinOf r ≡ wrap (pos east -ℤ pos west) ⌝ }
 {
-    if east < west {
-        wrapped(true, (west - east) as u32)
+    let apart = if east < west {
+        west - east
     } else {
-        wrapped(false, (east - west) as u32)
-    }
+        east - west
+    };
+    wrapped(east < west, apart as u32)
 }
 
 // A number by its sign and size, brought between -N and N: past N, a turn back leads to the other side of 0.

@@ -6,9 +6,9 @@ ghost use Rattle.projection.specs.Refusal.{isKind as isKindOf};
 
 // How a row has its q.
 pub enum Method {
-    Unused,
     Root,
     Quotient,
+    Unused,
 }
 
 pub struct Row {
@@ -132,5 +132,15 @@ pub(crate) fn row_of(kind: u8) -> Row
     ensures { λ r. ⌜ r ≡ rowOf kind ⌝ }
 {
     let i = (kind - 1) as usize;
-    ROWS[i]
+    let row = ROWS[i];
+    // Field by field: a copy of the whole would wait for the narrow last field.
+    let method = row.method;
+    Row {
+        kx: row.kx,
+        ky: row.ky,
+        a: row.a,
+        b: row.b,
+        e: row.e,
+        method,
+    }
 }

@@ -4,7 +4,7 @@ use mathlib.Core.List.{List, _∷_}
 use Prim.Native.Nat.{ℕ, _+_}
 use lib.Dec.{T, leb, eqb}
 use lib.IntN.{ℤ}
-use Rattle.projection.specs.Refusal.{Refusal, Outcome, refused, given, unless}
+use Rattle.projection.specs.Refusal.{Refusal, Outcome, refused, given, OfNumber, unless}
 use Rattle.record.specs.declared.session.Session.{Session}
 use Rattle.record.specs.Refusal.{badPieces}
 use Rattle.record.specs.Answer.{recordOrder, pairOf}
@@ -48,5 +48,4 @@ sessionAfter session (refused n) = cond (isCounted n) (oneRefused session) sessi
 
 -- an answer that adds to a count
 abbrev pub Counts : Outcome (ℤ × ℤ) → Type 0
-Counts (given pair) = Unit {0}
-Counts (refused n) = T (isCounted n)
+Counts = OfNumber (λ n. T (isCounted n))

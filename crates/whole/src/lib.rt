@@ -36,7 +36,7 @@ pub fn root(n: u64) -> u64
 fn root_or_above(n: u64) -> u64
     ensures { λ r. ⌜ (rootOf n ≤ r) × (r ≤ mostRoot) ⌝ }
 {
-    let k = (65 - u64::leading_zeros(n)) / 2;
+    let k = (64 - u64::leading_zeros(n)) / 2;
     let r = (1u64 << k) / 2 + (n >> k) / 2 + 1;
     if r < MOST_ROOT { r } else { MOST_ROOT }
 }

@@ -67,6 +67,7 @@ use Rattle.claims.proofs.Ways.{by-numbers}
 use Rattle.claims.proofs.Floats.{floats-by-numbers}
 use Rattle.claims.proofs.Pieces.{converting-answers, feeding-answers}
 use Rattle.claims.proofs.Records.{records-by-numbers}
+use Rattle.claims.proofs.Statuses.{interface}
 use Rattle.claims.proofs.hold.Statement.{statement}
 use Rattle.claims.proofs.hold.Tie as tie
 
@@ -201,7 +202,7 @@ printing =
     }
 
 returns : tie.Need-returns
-returns c = (demands, worked, record-example, arithmetic, written, printing)
+returns c = (demands, worked, record-example, arithmetic, written, printing, interface)
 
 pub hold-spec : {M : Type 1} → statement M
 hold-spec = tie.close (tie.spec returns)

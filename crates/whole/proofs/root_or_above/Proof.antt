@@ -8,7 +8,7 @@ use Rattle.whole.proofs.root_or_above.Statement.{statement}
 use Rattle.whole.proofs.root_or_above.Tie as tie
 
 abbrev half : tie.Start → ℕ
-half c = (65 - leadingZeros 64 (c .args .n)) / 2
+half c = (64 - leadingZeros 64 (c .args .n)) / 2
 
 half-le : (c : tie.Start) → half c ≤ 32
 half-le c = omega (arith, leading-le 64 (c .args .n))

@@ -1,36 +1,37 @@
 -- `projection::longitude::less` meets its contract: the smaller is taken from the greater, and the sign says which it was.
-use mathlib.Core.Path.{ap, sym, _∙_}
+use mathlib.Core.Logic.{⊎-elim}
+use mathlib.Core.Path.{_≡_, ap, sym, _∙_}
 use native.Mathlib.Omega.{arith}
 use borrow.Author.Needs.{needs}
+use borrow.Author.Tests.{lt-ltb, le-ltb}
+use lib.Dec.{ltb}
+use lib.IntN.{pos, _-ℤ_}
+use Rattle.whole.specs.Signed.{withSign}
 use Rattle.whole.proofs.Signs.{less-east, less-west}
 use Rattle.projection.specs.Longitude.{wrap}
 use Rattle.projection.proofs.longitude.less.Statement.{statement}
 use Rattle.projection.proofs.longitude.less.Tie as tie
 
-sub-wrapped : tie.Need-sub-wrapped
-sub-wrapped c = search needs
+sub-apart : tie.Need-sub-apart
+sub-apart c = search needs
 
 cast-wrapped : tie.Need-cast-wrapped
-cast-wrapped c = search needs
+cast-wrapped c = ⊎-elim (λ w. search needs) (λ w. search needs) (c .before .if1 .came)
 
 wrapped-requires : tie.Need-wrapped-requires
-wrapped-requires c κs = search needs
+wrapped-requires c κs = ⊎-elim (λ w. search needs) (λ w. search needs) (c .before .if1 .came)
 
-cast-wrapped-2 : tie.Need-cast-wrapped-2
-cast-wrapped-2 c = search needs
-
-wrapped-requires-2 : tie.Need-wrapped-requires-2
-wrapped-requires-2 c κs = search needs
+signed : (c : tie.After-row-known) → let s = c .before .before .args in
+    pos (s .east) -ℤ pos (s .west) ≡ withSign (ltb (s .east) (s .west)) (c .before .if1 .apart)
+signed c =
+    let s = c .before .before .args in
+    ⊎-elim
+    (λ w. rw (lt-ltb _ _ (w .0 .taken), w .1) (less-west (s .east) (s .west) (omega arith)))
+    (λ w. rw (le-ltb _ _ (w .0 .left), w .1) (less-east (s .east) (s .west) (omega arith)))
+    (c .before .if1 .came)
 
 returns : tie.Need-returns
-returns c =
-    let s = c .before .before .args in
-    c .wrapped .ensures ∙ ap wrap (sym (less-west (s .east) (s .west) (omega (arith, c .before .if1 .taken))))
-
-returns-2 : tie.Need-returns-2
-returns-2 c =
-    let s = c .before .before .args in
-    c .wrapped2 .ensures ∙ ap wrap (sym (less-east (s .east) (s .west) (omega (arith, c .before .if1 .left))))
+returns c = c .wrapped .ensures ∙ ap wrap (sym (signed (c .before)))
 
 pub less-spec : {M : Type 1} → statement M
-less-spec = tie.close (tie.spec sub-wrapped cast-wrapped wrapped-requires cast-wrapped-2 wrapped-requires-2 returns returns-2)
+less-spec = tie.close (tie.spec sub-apart cast-wrapped wrapped-requires returns)

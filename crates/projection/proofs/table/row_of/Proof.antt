@@ -2,6 +2,9 @@
 use mathlib.Core.Path.{refl}
 use native.Mathlib.Omega.{arith}
 use borrow.Author.Needs.{needs}
+use mir.Syntax.{w32}
+use mir.Val.{SFits}
+use mir.Facts.{toZ-ofZ}
 use Rattle.projection.specs.Table.{rows, rowOf}
 use Rattle.projection.proofs.Rows.{kind-range}
 use Rattle.projection.proofs.table.row_of.Statement.{statement}
@@ -13,16 +16,21 @@ sub-i c = kind-range (c .args .kind) (c .pre) .0
 cast-i : tie.Need-cast-i
 cast-i c = search needs
 
-mul-result : tie.Need-mul-result
-mul-result c = search needs
+mul-row : tie.Need-mul-row
+mul-row c = search needs
 
-array-copy-out-result : tie.Need-array-copy-out-result
+array-copy-out-row : tie.Need-array-copy-out-row
 unfolding rows
-array-copy-out-result c = omega (arith, kind-range (c .args .kind) (c .pre))
+array-copy-out-row c = omega (arith, kind-range (c .args .kind) (c .pre))
 
 returns : tie.Need-returns
 unfolding rows rowOf
-returns c = refl
+returns c =
+    let row = rowOf (c .before .before .args .kind) in
+    let fa : SFits w32 (row .a) = search needs in
+    let fb : SFits w32 (row .b) = search needs in
+    let fe : SFits w32 (row .e) = search needs in
+    rw (toZ-ofZ fa, toZ-ofZ fb, toZ-ofZ fe)
 
 pub row-of-spec : {M : Type 1} → statement M
-row-of-spec = tie.close (tie.spec sub-i cast-i mul-result array-copy-out-result returns)
+row-of-spec = tie.close (tie.spec sub-i cast-i mul-row array-copy-out-row returns)

@@ -1,0 +1,36 @@
+-- No refusal has the number 0, so that a status of 0 tells.
+use mathlib.Core.List.{List}
+use mathlib.Core.Path.{refl, subst}
+use Prim.Native.Nat.{ℕ}
+use lib.Dec.{T, ltb}
+use Rattle.projection.specs.Refusal.{Refusal, Outcome, refused, given, OfNumber, unless}
+use Rattle.projection.specs.Answer.{forwardOf, inverseOf}
+use Rattle.projection.proofs.Orders.{OfNumbers, unless-number}
+use Rattle.degrees.specs.Answer.{forwardOf as forwardDegrees, inverseOf as inverseDegrees}
+use Rattle.record.specs.Answer.{convertOf}
+use Rattle.record.specs.Session.{feedOf}
+use Rattle.record.proofs.Counted.{pair-numbers}
+use Rattle.claims.specs.Interface.{Tells, Interface}
+
+abbrev Above0 : ℕ → Type 0
+Above0 n = T (ltb 0 n)
+
+tells : {A : Type 0} (outcome : Outcome A) → OfNumber Above0 outcome → Tells outcome
+tells (given a) h = (λ e. tt, λ c. refl)
+tells (refused n) h = (λ e. subst Above0 e h, λ c. absurd c)
+
+ordered : {A : Type 0} (order : List Refusal) (a : A) → OfNumbers Above0 order → Tells (unless order a)
+ordered order a h = tells (unless order a) (unless-number Above0 order a h)
+
+pub interface : Interface
+unfolding forwardOf inverseOf forwardDegrees inverseDegrees convertOf feedOf
+interface =
+    record {
+      forward = λ kind c l f. ordered _ _ (tt, (tt, (tt, (tt, tt))));
+      inverse = λ kind c x y. ordered _ _ (tt, (tt, (tt, (tt, tt))));
+      forward-degrees = λ kind c l f. ordered _ _ (tt, (tt, (tt, (tt, (tt, (tt, (tt, tt)))))));
+      inverse-degrees = λ kind c x y. ordered _ _ (tt, (tt, (tt, (tt, (tt, (tt, (tt, tt)))))));
+      convert-record = λ input output. ordered _ _ (tt, (tt, (tt, pair-numbers Above0 input tt tt tt tt tt tt)));
+      feed = λ session input output. ordered _ _ (tt, (tt, (tt, (tt, pair-numbers Above0 input tt tt tt tt tt tt))));
+      counts-kept = λ m r. refl;
+    }

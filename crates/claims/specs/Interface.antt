@@ -1,0 +1,32 @@
+-- The C interface: what a status says. What each function returns and leaves in lent memory is in its contract.
+use mathlib.Core.List.{List, [], _∷_}
+use mathlib.Core.Logic.{_↔_}
+use mathlib.Core.Path.{_≡_}
+use Prim.Native.Nat.{ℕ}
+use lib.Ieee.{Float}
+use lib.IntN.{ℤ}
+use Rattle.projection.specs.Refusal.{Outcome, refused, given}
+use Rattle.projection.specs.Answer.{forwardOf, inverseOf}
+use Rattle.degrees.specs.Answer.{forwardOf as forwardDegrees, inverseOf as inverseDegrees}
+use Rattle.record.specs.declared.session.Session.{Session}
+use Rattle.record.specs.Answer.{convertOf}
+use Rattle.record.specs.Session.{feedOf}
+use Rattle.uldaseong.specs.Status.{statusOf, sessionIn, countsOf}
+
+abbrev pub Converted : {A : Type 0} → Outcome A → Type 0
+Converted (given a) = Unit {0}
+Converted (refused n) = ⊥
+
+-- a status of 0 says that the call converted, and any other that it did not
+abbrev pub Tells : {A : Type 0} → Outcome A → Type 0
+Tells outcome = (statusOf outcome ≡ 0) ↔ Converted outcome
+
+pub record Interface : Type 0 where
+  pub forward : (kind : ℕ) (central longitude latitude : ℤ) → Tells (forwardOf kind central longitude latitude)
+  pub inverse : (kind : ℕ) (central x y : ℤ) → Tells (inverseOf kind central x y)
+  pub forward-degrees : (kind : ℕ) (central longitude latitude : Float) → Tells (forwardDegrees kind central longitude latitude)
+  pub inverse-degrees : (kind : ℕ) (central x y : Float) → Tells (inverseDegrees kind central x y)
+  pub convert-record : (input : List ℕ) (output : ℕ) → Tells (convertOf input output)
+  pub feed : (session : Session) (input : List ℕ) (output : ℕ) → Tells (feedOf session input output)
+  -- counts that no record was counted to are handed back as they were lent
+  pub counts-kept : (moved refused : ℕ) → countsOf (sessionIn (moved ∷ refused ∷ [])) ≡ moved ∷ refused ∷ []

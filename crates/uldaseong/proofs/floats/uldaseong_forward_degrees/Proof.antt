@@ -1,0 +1,23 @@
+-- `uldaseong::floats::uldaseong_forward_degrees` meets its contract.
+use mathlib.Core.Path.{ap, _∙_}
+use denote.Ref.{now}
+use borrow.Author.Needs.{needs}
+use Rattle.uldaseong.specs.Status.{statusOf, pairAfter}
+use Rattle.uldaseong.proofs.floats.uldaseong_forward_degrees.Statement.{statement}
+use Rattle.uldaseong.proofs.floats.uldaseong_forward_degrees.Tie as tie
+
+forward-degrees-requires : tie.Need-forward-degrees-requires
+forward-degrees-requires c κs = search needs
+
+hand-out-requires : tie.Need-hand-out-requires
+hand-out-requires c κs = search needs
+
+returns : tie.Need-returns
+returns c =
+    let s = c .before .before .before .args in
+    let e = c .before .before .forward-degrees .ensures in
+    let h = c .hand-out .ensures in
+    (h .0 ∙ ap statusOf e, h .1 ∙ ap (pairAfter (now (s .place))) e)
+
+pub uldaseong-forward-degrees-spec : {M : Type 1} → statement M
+uldaseong-forward-degrees-spec = tie.close (tie.spec forward-degrees-requires hand-out-requires returns)

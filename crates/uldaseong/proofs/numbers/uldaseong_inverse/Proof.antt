@@ -1,0 +1,29 @@
+-- `uldaseong::numbers::uldaseong_inverse` meets its contract.
+use mathlib.Core.Path.{ap, _∙_}
+use denote.Ref.{now}
+use borrow.Author.Needs.{needs}
+use mir.Syntax.{w32}
+use mir.Val.{SFits}
+use mir.Facts.{toZ-ofZ}
+use Rattle.uldaseong.specs.Status.{statusOf, pairAfter}
+use Rattle.uldaseong.proofs.numbers.uldaseong_inverse.Statement.{statement}
+use Rattle.uldaseong.proofs.numbers.uldaseong_inverse.Tie as tie
+
+inverse-requires : tie.Need-inverse-requires
+inverse-requires c κs = search needs
+
+hand-out-requires : tie.Need-hand-out-requires
+hand-out-requires c κs = search needs
+
+returns : tie.Need-returns
+returns c =
+    let s = c .before .before .before .args in
+    let f0 : SFits w32 (s .central) = search needs in
+    let f1 : SFits w32 (s .x) = search needs in
+    let f2 : SFits w32 (s .y) = search needs in
+    let e = rw (toZ-ofZ f0, toZ-ofZ f1, toZ-ofZ f2) at (c .before .before .inverse .ensures) in
+    let h = c .hand-out .ensures in
+    (h .0 ∙ ap statusOf e, h .1 ∙ ap (pairAfter (now (s .position))) e)
+
+pub uldaseong-inverse-spec : {M : Type 1} → statement M
+uldaseong-inverse-spec = tie.close (tie.spec inverse-requires hand-out-requires returns)

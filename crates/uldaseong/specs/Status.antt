@@ -1,0 +1,23 @@
+-- What a function of the C interface returns, and what lent memory holds afterwards.
+use mathlib.Core.List.{List, [], _∷_}
+use Prim.Native.Nat.{ℕ}
+use lib.ListN.{getD}
+use Rattle.projection.specs.Refusal.{Outcome, refused, given}
+use Rattle.record.specs.declared.session.Session.{Session}
+
+-- 0 for converted, else the refusal's number
+abbrev pub statusOf : {A : Type 0} → Outcome A → ℕ
+statusOf (given a) = 0
+statusOf (refused n) = n
+
+-- the lent pair: as it was where the call refused
+abbrev pub pairAfter : {A : Type 0} → List A → Outcome (A × A) → List A
+pairAfter pair (given answer) = answer .0 ∷ answer .1 ∷ []
+pairAfter pair (refused n) = pair
+
+-- a session as its caller keeps it: moved, then refused
+abbrev pub sessionIn : List ℕ → Session
+sessionIn counts = record { moved = getD counts 0 0; refused = getD counts 1 0 }
+
+abbrev pub countsOf : Session → List ℕ
+countsOf session = session .moved ∷ session .refused ∷ []

@@ -1,0 +1,66 @@
+/*
+ * Uldaseong: map projections in whole numbers, proved. Longitude and latitude become places on a world map and come back, for
+ * ten atlas projections. Link target/staticlib/libuldaseong.a, which `rt staticlib uldaseong` builds for x86-64.
+ *
+ * Every function answers every input. It returns 0 where it converted, and else the number of the refusal:
+ *
+ *    1  kind is not 1..10
+ *    2  a float is NaN or infinite
+ *    3  central meridian outside 180 degrees either way
+ *    4  longitude outside 180 degrees either way
+ *    5  latitude outside 90 degrees either way
+ *    6  size of y greater than the pole's y
+ *    7  size of x greater than the half-width of the row found at y
+ *    8  input or output piece not of 16 bytes
+ *    9  mark is wrong
+ *   10  form is neither 0 nor 1
+ *   11  session is full
+ *
+ * The first that applies is given, in the order 8, 11, 9, 10, 1, 2, 3, then 4 and 5 for a position, or 6 and 7 for a place. On a
+ * refusal nothing lent has changed, but that a session counts it (8 and 11 are not counted).
+ *
+ * Pointers are aligned and not null, not even for a length of 0, and what is lent for writing overlaps nothing else that is
+ * lent. Functions keep nothing between calls: they may be called from several threads on different memory.
+ */
+#ifndef ULDASEONG_H
+#define ULDASEONG_H
+
+#include <stddef.h>
+#include <stdint.h>
+
+#ifdef __cplusplus
+extern "C" {
+#endif
+
+/* The length of a record. */
+#define ULDASEONG_RECORD 16
+
+/* Angles are whole hundredths of an arcsecond, 360,000 to the degree, east and north positive; places are whole hundred-
+ * millionths of the sphere's radius. */
+
+/* The place of a position: x, then y. Refusals: 1, 3, 4, 5. */
+uint8_t uldaseong_forward(uint8_t kind, int32_t central, int32_t longitude, int32_t latitude, int32_t place[2]);
+
+/* The position of a place: longitude, then latitude. Refusals: 1, 3, 6, 7. */
+uint8_t uldaseong_inverse(uint8_t kind, int32_t central, int32_t x, int32_t y, int32_t position[2]);
+
+/* The same with angles in degrees. A float stands for the whole number nearest to its exact value, times 360,000 for degrees;
+ * what is answered reads back as the same number. Refusals: 1, 2, 3, 4, 5. */
+uint8_t uldaseong_forward_degrees(uint8_t kind, double central, double longitude, double latitude, double place[2]);
+
+/* Refusals: 1, 2, 3, 6, 7. */
+uint8_t uldaseong_inverse_degrees(uint8_t kind, double central, double x, double y, double position[2]);
+
+/* Converts the record in `input` into `output`. Refusals: 8, 9, 10, then those of its kind, form and numbers. */
+uint8_t uldaseong_convert_record(const uint8_t *input, size_t input_length, uint8_t *output, size_t output_length);
+
+/* The same in a session, whose state is two counts that the caller keeps: records moved, then records refused. An opened
+ * session is { 0, 0 }, and any two counts are taken. One that is moved adds one to the first, one that is refused by a number
+ * other than 8 and 11 adds one to the second. From a sum of 1,000,000,000 up the session is full: 11, after 8. */
+uint8_t uldaseong_feed(uint64_t counts[2], const uint8_t *input, size_t input_length, uint8_t *output, size_t output_length);
+
+#ifdef __cplusplus
+}
+#endif
+
+#endif
