@@ -2,7 +2,7 @@
 use mathlib.Core.Bool.{Bool, true, false}
 use mathlib.Core.Path.{_≡_, refl, subst}
 use Prim.Native.Nat.{ℕ, zero, suc, _+_, _-_, _*_, _/_, _%_, _^_, _≤_, _<_}
-use native.Mathlib.Nat.{mul-comm, mul-add, add-mul, mul-le-mul-left, one-mul, lt-div-mul-add, div-lt-iff-lt-mul, div-le-self, mod-eq-of-lt, lt-of-not-le}
+use native.Mathlib.Nat.{mul-comm, mul-add, add-mul, mul-le-mul-left, one-mul, lt-div-mul-add, div-lt-iff-lt-mul, mod-eq-of-lt, lt-of-not-le}
 use native.Mathlib.Omega.{arith}
 use borrow.Author.Tests.{leb-true, leb-false}
 use lib.Dec.{leb}
@@ -71,16 +71,9 @@ root-small n h =
     let b : root n < 2 ^ 32 = square-lt (root n) (2 ^ 32) (omega (arith, i .low)) in
     omega arith
 
--- a step from a power of two, each half taken by itself
-module _ (n k : ℕ) (h : k ≤ 32) (small : n < 2 ^ 64) where
-  power-small : 2 ^ k ≤ 2 ^ 32
-  power-small = pow-mono h
-
-  pub shifted : 1 * 2 ^ k % 2 ^ 64 ≡ 2 ^ k
-  shifted = let p = power-small in rw (one-mul (2 ^ k)) (mod-eq-of-lt (omega arith))
-
-  pub halves-fit : 2 ^ k / 2 + n / 2 ^ k / 2 + 1 < 2 ^ 64
-  halves-fit = let p = power-small in let q = div-le-self n (2 ^ k) in omega arith
-
-  pub halves-above : root n ≤ 2 ^ k / 2 + n / 2 ^ k / 2 + 1
-  halves-above = let s = step-above n (2 ^ k) (pow-pos k) in omega arith
+-- a power of two of 64 bits is not 0
+pub power-above-0 : (k : ℕ) → k ≤ 32 → 0 < 1 * 2 ^ k % 2 ^ 64
+power-above-0 k h =
+    let p : 2 ^ k ≤ 2 ^ 32 = pow-mono h in
+    let small : 2 ^ k < 2 ^ 64 = omega arith in
+    rw (one-mul (2 ^ k), mod-eq-of-lt small) (pow-pos k)

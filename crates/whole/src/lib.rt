@@ -1,7 +1,7 @@
 // Whole numbers: rounding to the nearest, the floor of a square root, and a signed number as its sign and its size.
 ghost use mathlib.Core.Path.{_≡_};
 ghost use Rattle.whole.specs.Nearest.{nearest as nearestOf};
-ghost use Prim.Native.Nat.{_≤_};
+ghost use Prim.Native.Nat.{_≤_, _<_};
 ghost use Rattle.whole.specs.Root.{root as rootOf, mostRoot};
 ghost use Rattle.whole.specs.Signed.{splitOf, joinOf, plus as plusOf, minus as minusOf};
 
@@ -32,13 +32,22 @@ pub fn root(n: u64) -> u64
     r
 }
 
-// A number near the root of n and not below it: a step from a power of two near it, by which a quotient is a shift.
+// A number near the root of n and not below it: three steps from a power of two near it, the first of which is a shift. The
+// loop then makes one turn nearly always, so that its end is foretold.
 fn root_or_above(n: u64) -> u64
     ensures { λ r. ⌜ (rootOf n ≤ r) × (r ≤ mostRoot) ⌝ }
 {
     let k = (64 - u64::leading_zeros(n)) / 2;
-    let r = (1u64 << k) / 2 + (n >> k) / 2 + 1;
+    let r = step(n, step(n, step(n, 1 << k)));
     if r < MOST_ROOT { r } else { MOST_ROOT }
+}
+
+// A step of Newton's method from any number but 0, rounded up. The halves are taken one by one, since the sum may pass 64 bits.
+fn step(n: u64, r: u64) -> u64
+    requires { ⌜ 0 < r ⌝ }
+    ensures { λ s. ⌜ (rootOf n ≤ s) × (0 < s) ⌝ }
+{
+    r / 2 + n / r / 2 + 1
 }
 
 // A signed number as its sign and its size. 0 may have either sign.

@@ -1,0 +1,19 @@
+/* A seeded generator of numbers, and of records: good, damaged, and bytes at random. */
+#ifndef RANDOM_H
+#define RANDOM_H
+
+#include <stddef.h>
+#include <stdint.h>
+
+/* The next number of the generator (splitmix64). */
+uint64_t random_number(void);
+
+void random_seed(uint64_t seed);
+
+/* A number from 0 to below - 1. */
+uint32_t random_below(uint32_t below);
+
+/* Fills a piece: mostly a record with numbers near the map, often with a byte changed, and else bytes at random. */
+void random_piece(uint8_t *piece, size_t length);
+
+#endif
