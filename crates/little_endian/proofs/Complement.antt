@@ -26,7 +26,7 @@ module _ (m : ℕ) (h : m < 2147483648) where
 pub bits-below : (z : ℤ) → SFits w32 z → splitOf z .negative ≡ true →
     (0 < splitOf z .size) × (4294967295 - (splitOf z .size - 1) ≡ ofZ w32 z)
 bits-below (pos n) f e = absurd (T-not true tt (subst (λ (b : Bool). T (not b)) e tt))
-bits-below (negsuc n) f e = let h : n < 2147483648 = f .sfits in (omega arith, omega arith)
+bits-below (negsuc n) f e = (omega arith, omega arith)
 
 pub bits-above : (z : ℤ) → splitOf z .negative ≡ false → splitOf z .size ≡ ofZ w32 z
 bits-above (pos n) e = refl

@@ -23,11 +23,11 @@ pub latitude-le : (r : Row) → Columns r → (y : ℕ) → y ≤ height r H →
 unfolding latitudeSize height
 latitude-le r c y h =
     return-le N (r .ky) H (height r H) y (latitudeSize r y) (c .ky-low) (near (r .ky * H) N (omega arith)) h
-    (near (y * N) (r .ky) (omega (arith, c .ky-low)))
+    (near (y * N) (r .ky) (omega arith))
 
 -- the pole's y, and the row that is found up to there, end below 5 N
 pub pole-small : (r : Row) → Columns r → height r H < 5 * N
-pole-small r c = omega (arith, c .ky-high, height-le r H (omega arith))
+pole-small r c = omega (arith, height-le r H (omega arith))
 
 pub found-small : (r : Row) → Columns r → (y : ℤ) → natAbs y ≤ height r H → widthAt r y < 5 * N
 unfolding widthAt

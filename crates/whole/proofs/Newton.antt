@@ -2,7 +2,7 @@
 use mathlib.Core.Bool.{Bool, true, false}
 use mathlib.Core.Path.{_≡_, refl, subst}
 use Prim.Native.Nat.{ℕ, zero, suc, _+_, _-_, _*_, _/_, _%_, _^_, _≤_, _<_}
-use native.Mathlib.Nat.{mul-comm, mul-add, add-mul, mul-le-mul-left, one-mul, lt-div-mul-add, div-lt-iff-lt-mul, mod-eq-of-lt, lt-of-not-le}
+use native.Mathlib.Nat.{mul-comm, mul-add, mul-le-mul-left, one-mul, lt-div-mul-add, div-lt-iff-lt-mul, mod-eq-of-lt, lt-of-not-le}
 use native.Mathlib.Omega.{arith}
 use borrow.Author.Tests.{leb-true, leb-false}
 use lib.Dec.{leb}
@@ -13,10 +13,6 @@ use Rattle.whole.proofs.Squares.{square-mono, square-lt, root-is, root-
 -- twice a product is not above the two squares
 grown : (a d : ℕ) → 2 * (a * (a + d)) ≤ a * a + (a + d) * (a + d)
 grown a d =
-    let ab : a * (a + d) ≡ a * a + a * d = mul-add a a d in
-    let bb : (a + d) * (a + d) ≡ a * (a + d) + d * (a + d) = add-mul a d (a + d) in
-    let db : d * (a + d) ≡ d * a + d * d = mul-add d a d in
-    let c : d * a ≡ a * d = mul-comm d a in
     omega arith
 
 two-products : (a b : ℕ) → 2 * (a * b) ≤ a * a + b * b
@@ -62,13 +58,13 @@ pub reached : (n r : ℕ) → root n ≤ r → r * r ≤ n → r ≡ root n
 reached n r h k =
     let i = root-is n in
     let m : suc (root n) * suc (root n) ≤ suc r * suc r = square-mono (omega arith) in
-    root-unique (record { low = k; high = omega (arith, i .high) }) i
+    root-unique (record { low = k; high = omega arith }) i
 
 -- the root of a number of 64 bits
 pub root-small : (n : ℕ) → n < 2 ^ 64 → root n ≤ mostRoot
 root-small n h =
     let i = root-is n in
-    let b : root n < 2 ^ 32 = square-lt (root n) (2 ^ 32) (omega (arith, i .low)) in
+    let b : root n < 2 ^ 32 = square-lt (root n) (2 ^ 32) (omega arith) in
     omega arith
 
 -- a power of two of 64 bits is not 0

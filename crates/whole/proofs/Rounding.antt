@@ -3,7 +3,7 @@
 use mathlib.Core.Path.{_≡_, refl, sym, ap, ap₂, _∙_}
 use mathlib.Core.Bool.{Bool, true, false, cond}
 use Prim.Native.Nat.{ℕ, zero, suc, _+_, _*_, _/_, _%_, _≤_, _<_, min}
-use native.Mathlib.Nat.{div-add-mod', mod-lt, mul-add, mul-comm, mul-add-div, div-eq-of-lt, mul-add-mod-self-left, mod-eq-of-lt, le-refl, le-antisymm, mul-assoc, mul-pos, mul-le-mul-right, mul-lt-mul-of-pos-right, mul-div-mul-right, mul-div-cancel, mul-mod-left, div-div-eq-div-mul, add-zero}
+use native.Mathlib.Nat.{div-add-mod', mod-lt, mul-add, mul-comm, mul-add-div, div-eq-of-lt, mul-add-mod-self-left, mod-eq-of-lt, le-refl, le-antisymm, mul-pos, mul-le-mul-right, mul-lt-mul-of-pos-right, mul-div-mul-right, mul-div-cancel, mul-mod-left, div-div-eq-div-mul, add-zero}
 use native.Mathlib.Omega.{arith}
 use borrow.Author.Tests.{leb-true, leb-false, le-leb, lt-leb, ne-eqb}
 use lib.Arith.{mod-mul}
@@ -59,10 +59,10 @@ unfolding carry
 carry-scale r d c h = go (leb d (2 * r)) refl
   where
     go : (b : Bool) → leb d (2 * r) ≡ b → _≡_ {A = ℕ} (cond (leb (d * c) (2 * (r * c))) 1 0) (cond b 1 0)
-    go true e = let k = mul-le-mul-right c (leb-true d (2 * r) e) in rw (le-leb (d * c) (2 * (r * c)) (omega (arith, mul-assoc 2 r c)))
+    go true e = let k = mul-le-mul-right c (leb-true d (2 * r) e) in rw (le-leb (d * c) (2 * (r * c)) (omega arith))
     go false e =
         let k = mul-lt-mul-of-pos-right (leb-false d (2 * r) e) h in
-        rw (lt-leb (d * c) (2 * (r * c)) (omega (arith, mul-assoc 2 r c)))
+        rw (lt-leb (d * c) (2 * (r * c)) (omega arith))
 
 mod-scale : (n d c : ℕ) → 0 < d → 0 < c → n * c % (d * c) ≡ n % d * c
 mod-scale n d c h k = rw (mod-mul (n * c) h k, mul-div-cancel n k, mul-mod-left n c) (add-zero (n % d * c))

@@ -36,7 +36,7 @@ nearest-strict n d k h l g = let a = near n d h in le-antisymm (cancel d (omega 
 
 -- forward and back: a scale w of at least n keeps apart what n parts
 return-wider : (n w d x b : ℕ) → n < w → Near (w * d) n x → Near (x * n) w b → b ≡ d
-return-wider n w d x b l f g = let e = mul-comm x n in le-antisymm (cancel w (omega arith)) (cancel w (omega arith))
+return-wider n w d x b l f g = le-antisymm (cancel w (omega arith)) (cancel w (omega arith))
 
 pub return : (n w d x b : ℕ) → 0 < n → n ≤ w → Near (w * d) n x → Near (x * n) w b → b ≡ d
 return n w d x b p l f g = go (eq-or-lt-of-le l)
@@ -54,12 +54,11 @@ return n w d x b p l f g = go (eq-or-lt-of-le l)
 -- back and forward, on a scale below five times the other: within 2
 pub back-within : (n w x d z : ℕ) → w < 5 * n → Near (x * n) w d → Near (w * d) n z → (z ≤ x + 2) × (x ≤ z + 2)
 back-within n w x d z l f g =
-    let e = mul-comm x n in
     (cancel n (rw mul-add (omega arith)), cancel n (rw mul-add (omega arith)))
 
 -- a share of at most the whole is nearest to at most the whole
 pub part-le : (n w d x : ℕ) → 0 < n → d ≤ n → Near (w * d) n x → x ≤ w
-part-le n w d x p h f = near-le (w * d) n w x p (omega (arith, mul-le-mul-left w h, mul-comm w n)) f
+part-le n w d x p h f = near-le (w * d) n w x p (omega (arith, mul-le-mul-left w h)) f
 
 -- what lies at most where t does comes back to at most t
 pub return-le : (n w t top y p : ℕ) → n < w → Near (w * t) n top → y ≤ top → Near (y * n) w p → p ≤ t
@@ -79,7 +78,7 @@ climb f up (suc n) = go (climb f up n)
     step h (inr l) = inr (omega arith)
 
     go : Still f n ⊎ (n ≤ f n) → Still f (suc n) ⊎ (suc n ≤ f (suc n))
-    go (inl t) = let l : t .0 < n = t .1 in inl (t .0, omega arith, t .2)
+    go (inl t) = inl (t .0, omega arith, t .2)
     go (inr h) = step h (eq-or-lt-of-le (up n))
 
 pub share : (n w : ℕ) → 0 < n → w < n → (d : ℕ) × (d < n) × (nearest (w * d) n ≡ nearest (w * suc d) n)

@@ -1,8 +1,8 @@
 -- The floor of a square root: that it is one, that there is one only, and that it grows.
-use mathlib.Core.Path.{_≡_, ap, _∙_}
+use mathlib.Core.Path.{_≡_}
 use mathlib.Core.Bool.{Bool, true, false, not, cond}
 use Prim.Native.Nat.{ℕ, zero, suc, _*_, _/_, _≤_, _<_}
-use native.Mathlib.Nat.{mul-suc, suc-mul, mul-le-mul, mul-mul-mul-comm, le-antisymm, lt-of-not-le, lt-of-le-of-lt, lt-irrefl, le-of-suc-le-suc, le-refl}
+use native.Mathlib.Nat.{mul-le-mul, le-antisymm, lt-of-not-le, lt-of-le-of-lt, lt-irrefl, le-of-suc-le-suc, le-refl}
 use native.Mathlib.Omega.{arith}
 use lib.Dec.{T, leb, leb→le, nleb→lt}
 use Rattle.whole.specs.Root.{root, rootIn, IsRoot}
@@ -11,7 +11,7 @@ pub square-mono : {a b : ℕ} → a ≤ b → a * a ≤ b * b
 square-mono h = mul-le-mul h h
 
 pub square-mono-lt : {a b : ℕ} → a < b → a * a < b * b
-square-mono-lt {a} {b} h = let m : suc a * suc a ≤ b * b = square-mono h in omega (arith, simp (suc-mul, mul-suc) at m)
+square-mono-lt {a} {b} h = let m : suc a * suc a ≤ b * b = square-mono h in omega arith
 
 -- squares in order have their sides in order
 pub square-lt : (a b : ℕ) → a * a < b * b → a < b
@@ -19,8 +19,6 @@ square-lt a b h = lt-of-not-le (λ k. lt-irrefl (b * b) (lt-of-le-of-lt (square-
 
 root-le : {n m r s : ℕ} → n ≤ m → IsRoot n r → IsRoot m s → r ≤ s
 root-le {n} {m} {r} {s} h a b =
-    let l : r * r ≤ n = a .low in
-    let u : m < suc s * suc s = b .high in
     le-of-suc-le-suc (square-lt r (suc s) (omega arith))
 
 pub root-unique : {n r s : ℕ} → IsRoot n r → IsRoot n s → r ≡ s
@@ -28,14 +26,7 @@ root-unique {n} a b = le-antisymm (root-le (le-refl n) a b) (root-le (le-refl n)
 
 -- twice the root of n / 4 is the root of n, or one less
 step : (n r : ℕ) → IsRoot (n / 4) r → (2 * r * (2 * r) ≤ n) × (n < suc (suc (2 * r)) * suc (suc (2 * r)))
-step n r a =
-    let l : r * r ≤ n / 4 = a .low in
-    let u : n / 4 < suc r * suc r = a .high in
-    let e : 2 * r * (2 * r) ≡ 4 * (r * r) = mul-mul-mul-comm 2 r 2 r in
-    let d : suc (suc (2 * r)) ≡ 2 * suc r = omega arith in
-    let f : suc (suc (2 * r)) * suc (suc (2 * r)) ≡ 4 * (suc r * suc r) =
-    ap (λ (x : ℕ). x * x) d ∙ mul-mul-mul-comm 2 (suc r) 2 (suc r) in
-    (omega arith, omega arith)
+step n r a = omega arith
 
 pick : (n r : ℕ) (b : Bool) → (T b → suc r * suc r ≤ n) → (T (not b) → n < suc r * suc r) → r * r ≤ n →
     n < suc (suc r) * suc (suc r) → IsRoot n (cond b (suc r) r)

@@ -14,7 +14,6 @@ returns c = sym (lt-leb (c .before .args .at + 4) (c .before .args .length) (ome
 returns-2 : tie.Need-returns-2
 returns-2 c =
     let s = c .before .args in
-    let h = c .if1 .left in
     same-test (s .at) (s .length - 4) (s .at + 4) (s .length) (λ k. omega arith) (λ k. omega arith)
 
 pub has-four-spec : {M : Type 1} → statement M

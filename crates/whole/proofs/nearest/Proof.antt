@@ -4,7 +4,7 @@ use Prim.Native.Nat.{ℕ, _+_, _*_, _/_, _%_, _-_, _≤_, _<_}
 use native.Mathlib.Nat.{mod-lt, div-add-mod', mul-le-mul-left}
 use native.Mathlib.Omega.{arith}
 use borrow.Author.Needs.{needs}
-use borrow.Author.Tests.{eq-eqb, le-leb, lt-leb}
+use borrow.Author.Tests.{le-leb, lt-leb}
 use Rattle.whole.specs.Nearest.{carry, nearest}
 use Rattle.whole.proofs.Rounding.{nearest-is}
 use Rattle.whole.proofs.nearest.Statement.{statement}
@@ -25,11 +25,11 @@ unfolding carry
 carry-none r d t = rw (lt-leb d (2 * r) (omega arith))
 
 divisor : (c : tie.Else1) → 0 < c .before .args .d
-divisor c = omega (arith, c .if1 .left)
+divisor c = omega arith
 
 returns : tie.Need-returns
 unfolding nearest
-returns c = rw (eq-eqb _ _ (c .if1 .taken))
+returns c = cc
 
 div-q : tie.Need-div-q
 div-q c = search needs
@@ -44,17 +44,17 @@ add-result : tie.Need-add-result
 add-result c =
     let s = c .before .before in
     let t : s .args .d - s .args .n % s .args .d ≤ s .args .n % s .args .d = omega (arith, c .if2 .taken) in
-    omega (arith, room (s .args .n) (s .args .d) (divisor (c .before)) t, mod-lt (s .args .n) (divisor (c .before)))
+    omega (arith, room (s .args .n) (s .args .d) (divisor (c .before)) t)
 
 returns-2 : tie.Need-returns-2
 returns-2 c =
     let s = c .before .before in
-    rw (nearest-is (s .args .n) (s .args .d) (divisor (c .before)), carry-one (s .args .n % s .args .d) (s .args .d) (omega (arith, c .if2 .taken)))
+    rw (nearest-is (s .args .n) (s .args .d) (divisor (c .before)), carry-one (s .args .n % s .args .d) (s .args .d) (omega arith))
 
 returns-3 : tie.Need-returns-3
 returns-3 c =
     let s = c .before .before in
-    rw (nearest-is (s .args .n) (s .args .d) (divisor (c .before)), carry-none (s .args .n % s .args .d) (s .args .d) (omega (arith, c .if2 .left))) (omega arith)
+    rw (nearest-is (s .args .n) (s .args .d) (divisor (c .before)), carry-none (s .args .n % s .args .d) (s .args .d) (omega arith)) (omega arith)
 
 pub nearest-spec : {M : Type 1} → statement M
 nearest-spec = tie.close (tie.spec returns div-q rem-r sub-if2 add-result returns-2 returns-3)

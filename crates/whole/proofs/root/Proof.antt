@@ -18,11 +18,11 @@ root-or-above-requires : tie.Need-root-or-above-requires Inv-loop μ-loop
 root-or-above-requires c κs = search needs
 
 loop-holds : tie.Need-loop-holds Inv-loop μ-loop
-loop-holds c = c .root-or-above .ensures
+loop-holds c = search needs
 
 mul-loop : tie.Need-mul-loop Inv-loop μ-loop
 mul-loop c =
-    let m : c .loop .r * c .loop .r ≤ 4294967295 * 4294967295 = square-mono {b = 4294967295} (omega (arith, c .loop .inv .1)) in
+    let m : c .loop .r * c .loop .r ≤ 4294967295 * 4294967295 = square-mono {b = 4294967295} (omega arith) in
     omega arith
 
 -- above the root, where a turn is made
@@ -33,7 +33,7 @@ div-r : tie.Need-div-r Inv-loop μ-loop
 div-r c = omega (arith, below c)
 
 add-r : tie.Need-add-r Inv-loop μ-loop
-add-r c = omega (arith, below c, c .before .loop .inv .1)
+add-r c = omega (arith, below c)
 
 loop-less : tie.Need-loop-less Inv-loop μ-loop
 loop-less c = omega (arith, below c)
@@ -42,7 +42,7 @@ loop-again : tie.Need-loop-again Inv-loop μ-loop
 loop-again c =
     let b = below c in
     let s = step-above (c .before .before .before .args .n) (c .before .loop .r) (omega arith) in
-    (omega arith, omega (arith, c .before .loop .inv .1))
+    (omega arith, omega arith)
 
 returns : tie.Need-returns Inv-loop μ-loop
 returns c = reached (c .before .before .before .args .n) (c .before .loop .r) (c .before .loop .inv .0) (c .loop-test .left)

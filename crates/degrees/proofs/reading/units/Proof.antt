@@ -15,7 +15,7 @@ read-requires : tie.Need-read-requires
 read-requires c κs = search needs
 
 returns : tie.Need-returns
-returns c = held-back (units (c .before .args .x)) (read-is c)
+returns c = search needs
 
 pub units-spec : {M : Type 1} → statement M
 units-spec = tie.close (tie.spec read-requires returns)

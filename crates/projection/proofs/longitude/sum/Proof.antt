@@ -25,12 +25,12 @@ plus-requires-2 c κs = search needs
 east : (c : tie.After-plus2) →
     let s = c .before .before .args in
     c .before .plus .result + c .plus2 .result ≡ plus (joinOf (s .first)) + plus (joinOf (s .second))
-east c = ap₂ _+_ (c .before .plus .ensures) (c .plus2 .ensures)
+east c = cc
 
 west : (c : tie.After-minus2) →
     let s = c .before .before .before .before .args in
     c .before .minus .result + c .minus2 .result ≡ minus (joinOf (s .first)) + minus (joinOf (s .second))
-west c = ap₂ _+_ (c .before .minus .ensures) (c .minus2 .ensures)
+west c = cc
 
 add-less : tie.Need-add-less
 add-less c =

@@ -17,12 +17,12 @@ sub-t7 c = search needs
 returns : tie.Need-returns
 returns c =
     let s = c .before .args in
-    sym (wrap-near (withSign (s .negative) (s .size)) (rw (natAbs-sign (s .negative) (s .size)) (omega (arith, c .if1 .taken))))
+    sym (wrap-near (withSign (s .negative) (s .size)) (rw (natAbs-sign (s .negative) (s .size)) (omega arith)))
 
 returns-2 : tie.Need-returns-2
 returns-2 c =
     let s = c .before .args in
-    sym (wrap-far (s .negative) (s .size) (omega (arith, c .if1 .left)) (c .before .pre))
+    sym (wrap-far (s .negative) (s .size) (omega arith) (c .before .pre))
 
 pub wrapped-spec : {M : Type 1} → statement M
 wrapped-spec = tie.close (tie.spec mul-t6 sub-t7 returns returns-2)

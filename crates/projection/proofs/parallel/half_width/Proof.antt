@@ -22,10 +22,10 @@ start2 c = start1 (c .before .before .before)
 
 -- each test is the refusal's condition
 kind-test : (c : tie.After-is-kind) → not (c .is-kind .result) ≡ badKind (c .before .args .kind) .applies
-kind-test c = ap not (c .is-kind .ensures)
+kind-test c = cc
 
 kind-good : (c : tie.Else1) → Passes (badKind (start1 c .args .kind))
-kind-good c = sym (kind-test (c .before)) ∙ c .if1 .left
+kind-good c = cc
 
 latitude-is : (c : tie.After-new) → joinOf (c .new .result .count) ≡ start1 (c .before) .args .latitude
 latitude-is c = number-is (c .new .result .count) (start1 (c .before) .fits .latitude) (c .new .ensures)

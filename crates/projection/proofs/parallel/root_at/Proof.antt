@@ -1,7 +1,6 @@
 -- `projection::parallel::root_at` meets its contract, a return for each method.
 use native.Mathlib.Omega.{arith}
 use borrow.Author.Needs.{needs}
-use Rattle.whole.specs.Root.{root}
 use Rattle.projection.specs.Parallel.{radicand, rootBy, rootAt}
 use Rattle.projection.proofs.Widths.{radicand-small}
 use Rattle.projection.proofs.parallel.root_at.Statement.{statement}
@@ -43,15 +42,15 @@ div-result c = search needs
 
 returns : tie.Need-returns
 unfolding rootAt rootBy
-returns c = rw (c .enum-told .given .1)
+returns c = search needs
 
 returns-2 : tie.Need-returns-2
 unfolding rootAt rootBy
-returns-2 c = rw (c .root .ensures, c .before .radicand .ensures, c .before .before .enum-told2 .given .1)
+returns-2 c = cc
 
 returns-3 : tie.Need-returns-3
 unfolding rootAt rootBy
-returns-3 c = rw (c .radicand2 .ensures, c .before .enum-told3 .given .1)
+returns-3 c = cc
 
 pub root-at-spec : {M : Type 1} → statement M
 root-at-spec =

@@ -10,7 +10,7 @@ use Rattle.projection.proofs.parallel.row_half_width.Tie as tie
 width-is : (c : tie.After-nearest) →
     c .nearest .result ≡ halfWidth (c .before .before .before .args .row) (c .before .before .before .args .p)
 unfolding halfWidth
-width-is c = rw (c .nearest .ensures, c .before .numerator .ensures)
+width-is c = cc
 
 cast-nearest : tie.Need-cast-nearest
 cast-nearest c = search needs

@@ -9,7 +9,7 @@ use Rattle.projection.proofs.parallel.row_height.Statement.{statement}
 use Rattle.projection.proofs.parallel.row_height.Tie as tie
 
 latitude-le : (c : tie.After-struct-known) → c .before .args .p ≤ N
-latitude-le c = let l = c .before .pre .latitude in omega arith
+latitude-le c = omega arith
 
 cast-nearest : tie.Need-cast-nearest
 cast-nearest c = search needs
@@ -28,11 +28,11 @@ nearest-requires c κs = search needs
 cast-result : tie.Need-cast-result
 cast-result c =
     let s = c .before .before in
-    omega (arith, c .nearest .ensures, s .pre .columns .ky-high, scaled-le (s .args .row .ky) (s .args .p) (latitude-le (c .before)))
+    omega (arith, s .pre .columns .ky-high, scaled-le (s .args .row .ky) (s .args .p) (latitude-le (c .before)))
 
 returns : tie.Need-returns
 unfolding height
-returns c = c .nearest .ensures
+returns c = search needs
 
 pub row-height-spec : {M : Type 1} → statement M
 row-height-spec = tie.close (tie.spec cast-nearest mul-nearest cast-nearest-2 nearest-requires cast-result returns)

@@ -27,10 +27,10 @@ start4 c = start3 (c .before .before .before)
 
 -- the test of the kind is the refusal's condition
 kind-test : (c : tie.After-is-kind) → not (c .is-kind .result) ≡ badKind (c .before .args .kind) .applies
-kind-test c = ap not (c .is-kind .ensures)
+kind-test c = cc
 
 kind-good : (c : tie.Else1) → Passes (badKind (start1 c .args .kind))
-kind-good c = sym (kind-test (c .before)) ∙ c .if1 .left
+kind-good c = cc
 
 -- each angle is the number handed in
 central-is : (c : tie.After-new) → joinOf (c .new .result .count) ≡ start1 (c .before) .args .central

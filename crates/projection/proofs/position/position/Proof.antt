@@ -31,7 +31,7 @@ start2 c = start1 (c .before .before .before .before)
 
 -- the first test passed: y is at most the pole's
 y-le : (c : tie.Else1) → start1 c .args .y .size ≤ height (start1 c .args .row) H
-y-le c = omega (arith, c .if1 .left, c .before .before .row-height .ensures)
+y-le c = omega arith
 
 y-good : (c : tie.Else1) → Passes (badY (start1 c .args .row) (joinOf (start1 c .args .y)))
 y-good c =
@@ -61,7 +61,7 @@ width-is c =
 
 -- the second test passed: x is at most the half-width
 x-le : (c : tie.Else2) → start2 c .args .x .size ≤ c .before .before .row-half-width .result
-x-le c = omega (arith, c .if2 .left)
+x-le c = omega arith
 
 x-good : (c : tie.Else2) → let s = start2 c .args in Passes (badX (s .row) (joinOf (s .x)) (joinOf (s .y)))
 x-good c =
@@ -93,7 +93,7 @@ row-height-requires c κs = search needs
 y-bad : (c : tie.Then1) → let s = c .before .before .before .args in Applies (badY (s .row) (joinOf (s .y)))
 y-bad c =
     let s = c .before .before .before .args in
-    lt-ltb (height (s .row) H) (natAbs (joinOf (s .y))) (rw (natAbs-join (s .y)) (omega (arith, c .if1 .taken, c .before .before .row-height .ensures)))
+    lt-ltb (height (s .row) H) (natAbs (joinOf (s .y))) (rw (natAbs-join (s .y)) (omega arith))
 
 returns : tie.Need-returns
 returns c =
@@ -101,12 +101,12 @@ returns c =
     row-6 (s .row) (joinOf (s .central)) (joinOf (s .x)) (joinOf (s .y)) (y-bad c)
 
 unscaled-requires : tie.Need-unscaled-requires
-unscaled-requires c κs = omega (arith, y-le c, height-le (start1 c .args .row) H (omega arith))
+unscaled-requires c κs = omega (arith, height-le (start1 c .args .row) H (omega arith))
 
 row-half-width-requires : tie.Need-row-half-width-requires
 row-half-width-requires c κs =
     let u = usable c in
-    record { columns = u .columns; latitude = omega (arith, u .latitude) }
+    record { columns = u .columns; latitude = omega arith }
 
 x-bad : (c : tie.Then2) →
     let s = start1 (c .before .before .before .before) .args in
@@ -114,7 +114,7 @@ x-bad : (c : tie.Then2) →
 x-bad c =
     let r = c .before .before in
     let s = start1 (r .before .before) .args in
-    lt-ltb (widthAt (s .row) (joinOf (s .y))) (natAbs (joinOf (s .x))) (rw (← width-is r, natAbs-join (s .x)) (omega (arith, c .if2 .taken)))
+    lt-ltb (widthAt (s .row) (joinOf (s .y))) (natAbs (joinOf (s .x))) (rw (← width-is r, natAbs-join (s .x)) (omega arith))
 
 returns-2 : tie.Need-returns-2
 returns-2 c =
@@ -123,7 +123,7 @@ returns-2 c =
     row-7 (s .row) (joinOf (s .central)) (joinOf (s .x)) (joinOf (s .y)) (y-good c1) (x-bad c)
 
 unscaled-requires-2 : tie.Need-unscaled-requires-2
-unscaled-requires-2 c κs = omega (arith, x-le c)
+unscaled-requires-2 c κs = search needs
 
 sum-requires : tie.Need-sum-requires
 sum-requires c κs = (start2 (c .before) .pre .1, difference-small c)

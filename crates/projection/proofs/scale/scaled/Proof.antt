@@ -28,7 +28,7 @@ nearest-requires c κs = search needs
 cast-t8 : tie.Need-cast-t8
 cast-t8 c =
     let s = c .before .before in
-    omega (arith, c .nearest .ensures, scaled-le (s .args .w) (s .args .z .size) (s .pre .1))
+    omega (arith, scaled-le (s .args .w) (s .args .z .size) (s .pre .1))
 
 returns : tie.Need-returns
 returns c =

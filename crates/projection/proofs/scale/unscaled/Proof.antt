@@ -26,7 +26,7 @@ nearest-requires c κs = search needs
 cast-t8 : tie.Need-cast-t8
 cast-t8 c =
     let s = c .before .before in
-    omega (arith, c .nearest .ensures, unscaled-le (s .args .w) (s .args .z .size) (s .pre))
+    omega (arith, unscaled-le (s .args .w) (s .args .z .size) (s .pre))
 
 returns : tie.Need-returns
 returns c =

@@ -8,11 +8,11 @@ use Rattle.projection.proofs.table.is_kind.Tie as tie
 
 returns : tie.Need-returns
 unfolding isKind
-returns c = rw (c .if1 .taken)
+returns c = cc
 
 returns-2 : tie.Need-returns-2
 unfolding isKind rows
-returns-2 c = rw (le-leb 1 (c .before .args .kind) (omega (arith, c .if1 .left)))
+returns-2 c = rw (le-leb 1 (c .before .args .kind) (omega arith))
 
 pub is-kind-spec : {M : Type 1} → statement M
 is-kind-spec = tie.close (tie.spec returns returns-2)

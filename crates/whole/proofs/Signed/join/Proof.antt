@@ -9,10 +9,10 @@ use Rattle.whole.proofs.Signed.join.Statement.{statement}
 use Rattle.whole.proofs.Signed.join.Tie as tie
 
 small : (c : tie.After-struct-known) → c .before .before .args .self .size < 2 ^ 63
-small c = omega (arith, c .struct-known .given)
+small c = omega arith
 
 small-2 : (c : tie.After-struct-known2) → c .before .before .args .self .size < 2 ^ 63
-small-2 c = omega (arith, c .struct-known2 .given)
+small-2 c = omega arith
 
 cast-result : tie.Need-cast-result
 cast-result c = search needs

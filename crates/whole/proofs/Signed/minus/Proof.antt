@@ -13,7 +13,7 @@ returns : tie.Need-returns
 returns c = rw (c .before .if1 .taken) (sym (minus-neg (pos (c .before .before .args .self .size))))
 
 returns-2 : tie.Need-returns-2
-returns-2 c = rw (c .if1 .left)
+returns-2 c = search needs
 
 pub minus-spec : {M : Type 1} → statement M
 minus-spec = tie.close (tie.spec cast-result returns returns-2)
