@@ -37,11 +37,11 @@ answers-alike session earlier call a = rw (← a .moved, ← a .refused) (go (bo
 agrees-after : (session : Session) (earlier : List (Outcome (ℤ × ℤ))) (answer : Outcome (ℤ × ℤ)) → Agrees session earlier →
     Agrees (sessionAfter session answer) (answer ∷ earlier)
 unfolding sessionAfter count
-agrees-after session earlier (given pair) a = record { moved = omega (arith, a .moved); refused = a .refused }
+agrees-after session earlier (given pair) a = record { moved = omega arith; refused = a .refused }
 agrees-after session earlier (refused n) a = go (isCounted n) refl
   where
     go : (b : Bool) → isCounted n ≡ b → Agrees (cond (isCounted n) (oneRefused session) session) (refused n ∷ earlier)
-    go true e = rw e (record { moved = a .moved; refused = rw e (omega (arith, a .refused)) })
+    go true e = rw e (record { moved = a .moved; refused = rw e (omega arith) })
     go false e = rw e (record { moved = a .moved; refused = rw e (a .refused) })
 
 pub agrees : (calls : List Call) → Agrees (sessionOf calls) (answersOf calls)

@@ -1,7 +1,7 @@
 -- The answer of each call on a record, refusal by refusal in its order.
 use mathlib.Core.Bool.{Bool, true, false, not, cond}
 use mathlib.Core.List.{List}
-use mathlib.Core.Path.{_≡_, refl, sym, _∙_, subst}
+use mathlib.Core.Path.{_≡_, refl, sym, subst}
 use Prim.Native.Nat.{ℕ}
 use native.Mathlib.Omega.{arith}
 use borrow.Author.Tests.{eqb-true, eq-eqb, ne-eqb, not-false}
@@ -35,7 +35,7 @@ module _ (bytes : List ℕ) where
       inverseOf (kindIn bytes) (centralIn bytes) (firstIn bytes) (secondIn bytes) ≡ judgedOf bytes
   unfolding judgedOf inverseOf pairOrder pairOf unless
   judged-place m h =
-      rw (m, ne-eqb (formIn bytes) position (λ k. let e : place ≡ position = sym h ∙ k in omega arith), eq-eqb (formIn bytes) place h)
+      rw (m, ne-eqb (formIn bytes) position (λ k. omega arith), eq-eqb (formIn bytes) place h)
 
 module _ (input : List ℕ) (output : ℕ) where
   pub converted-8 : Applies (badPieces input output) → refused 8 ≡ convertOf input output

@@ -42,16 +42,16 @@ pub one-more : {t : Session} {s l : List ℕ} {i : ℕ} {state : Session} {end :
 unfolding sessionAt linesOf answerAt
 one-more {t} {s} {l} {i} p fed room e heard after put =
     let u : Session = sessionAt t s 0 i in
-    let h : meaning (fed .answer) ≡ feedOf u (recordAt s i) size = heard ∙ rw (p .session, piece-is s i, e) refl in
-    let a : fed .session ≡ sessionAfter u (feedOf u (recordAt s i) size) = after ∙ rw (p .session, piece-is s i, e) refl in
+    let h : meaning (fed .answer) ≡ feedOf u (recordAt s i) size = heard ∙ rw (p .session, piece-is s i, e) in
+    let a : fed .session ≡ sessionAfter u (feedOf u (recordAt s i) size) = after ∙ rw (p .session, piece-is s i, e) in
     rw (add-one i) (record { session = rw (zero-add i) a; lines = rw (zero-add i) (put-twice (omega arith) (p .lines) (rw h at put)) })
 
 -- ---- blocks compose
 
 pub sessions-compose : SessionsCompose
 unfolding sessionAt
-sessions-compose t s first a zero = rw (add-zero a) refl
-sessions-compose t s first a (suc b) = rw (add-suc a b, sessions-compose t s first a b, add-assoc first a b) refl
+sessions-compose t s first a zero = rw (add-zero a)
+sessions-compose t s first a (suc b) = rw (add-suc a b, sessions-compose t s first a b, add-assoc first a b)
 
 pub lines-compose : LinesCompose
 unfolding linesOf
@@ -70,11 +70,11 @@ module _ (t : Session) (s s′ : List ℕ) (first first′ : ℕ) where
   unfolding sessionAt answerAt
   same-session zero same = refl
   same-session (suc count) same =
-      rw (same-session count (λ i h. same i (omega arith)), same count (omega arith)) refl
+      rw (same-session count (λ i h. same i (omega arith)), same count (omega arith))
 
   pub same-lines : (count : ℕ) → Same count → linesOf t s first count ≡ linesOf t s′ first′ count
   unfolding linesOf answerAt
   same-lines zero same = refl
   same-lines (suc count) same =
       let less : Same count = λ i h. same i (omega arith) in
-      rw (same-lines count less, same-session count less, same count (omega arith)) refl
+      rw (same-lines count less, same-session count less, same count (omega arith))

@@ -48,7 +48,7 @@ put-twice {l} {l′} {l″} {text} {more} {at} {next} {end} h p q =
     let d : drop (next + length more) l′ ≡ drop (at + length (text ++ more)) l =
     rw (p .behind, e) (drop-past pre (drop m l) m (length more) len ∙ drop-drop (length more) m l ∙ ap (λ (k : ℕ). drop k l) n) in
     record {
-      behind = omega (arith, p .behind, q .behind, length-append text more);
+      behind = omega arith;
       holds = q .holds ∙ rw (t, d) (simp append-assoc);
     }
 
@@ -90,8 +90,8 @@ too-short e = record { counted = rw e; holds = rw e; within = tt }
 -- what an answer says of the room
 pub was-placed : (fits : Bool) {text l l′ : List ℕ} {answer : Text} {end : ℕ} → Placed fits text l answer l′ → answer ≡ Bytes end → fits ≡ true
 was-placed true p e = refl
-was-placed false {end = end} p e = let n : some end ≡ none = sym (ap bytes e) ∙ p .counted in cc
+was-placed false {end = end} p e = cc
 
 pub was-too-short : (fits : Bool) {text l l′ : List ℕ} {answer : Text} → Placed fits text l answer l′ → answer ≡ TooShort → fits ≡ false
-was-too-short true {text} p e = let n : none ≡ some (length text) = sym (ap bytes e) ∙ p .counted in cc
+was-too-short true {text} p e = cc
 was-too-short false p e = refl

@@ -48,7 +48,7 @@ digits-are (suc turns) (suc m) h =
     let r = digits-are turns (n / 10) (omega arith) in
     record {
       all-digits = digits-behind front d (r .all-digits) (omega arith) (omega arith);
-      reads-back = value-behind front 0 d ∙ omega (arith, r .reads-back);
+      reads-back = value-behind front 0 d ∙ omega arith;
       no-leading-zero = λ p. first (n / 10) refl (r .no-leading-zero);
     } where
       first : (q : ℕ) → q ≡ suc m / 10 → (0 < q → nought < getD (digitsIn turns q) 0 nought) →
@@ -70,9 +70,8 @@ digits-le : (k turns n : ℕ) → n < 10 ^ k → length (digitsIn turns n) ≤ k
 unfolding digitsIn
 digits-le k zero n h = omega arith
 digits-le k (suc turns) zero h = omega arith
-digits-le zero (suc turns) (suc m) h = let z : suc m < 1 = h in absurd (omega arith)
+digits-le zero (suc turns) (suc m) h = absurd (omega arith)
 digits-le (suc k) (suc turns) (suc m) h =
-    let b : suc m < 10 * 10 ^ k = rw (pow-succ' 10 k) at h in
     let n : ℕ = suc m / 10 in
     let l : length (digitsIn turns n) ≤ k = digits-le k turns n (omega arith) in
     rw (length-behind (digitsIn turns n) (nought + suc m % 10)) (omega arith)
@@ -85,15 +84,12 @@ decimal-le k (suc m) p h = digits-le k (suc m) (suc m) h
 
 digits-length : (k turns n : ℕ) → n ≤ turns → 10 ^ k ≤ n → n < 10 * 10 ^ k → length (digitsIn turns n) ≡ suc k
 unfolding digitsIn
-digits-length k zero n h l u = absurd (omega (arith, pow-pos k))
-digits-length k (suc turns) zero h l u = absurd (omega (arith, pow-pos k))
+digits-length k zero n h l u = absurd (omega arith)
+digits-length k (suc turns) zero h l u = absurd (omega arith)
 digits-length zero (suc turns) (suc m) h l u =
-    let b : suc m < 10 = u in
     let e : suc m / 10 ≡ 0 = omega arith in
-    rw (e, no-digits turns) refl
+    rw (e, no-digits turns)
 digits-length (suc k) (suc turns) (suc m) h l u =
-    let l′ : 10 * 10 ^ k ≤ suc m = rw (pow-succ' 10 k) at l in
-    let u′ : suc m < 10 * (10 * 10 ^ k) = rw (pow-succ' 10 k) at u in
     length-behind (digitsIn turns (suc m / 10)) (nought + suc m % 10)
     ∙ ap suc (digits-length k turns (suc m / 10) (omega arith) (omega arith) (omega arith))
 

@@ -64,7 +64,7 @@ module _ (t : Session) (s more : List ℕ) where
 
   record-after : (i : ℕ) → i < n → recordAt (s ++ more) (0 + k + i) ≡ recordAt (tailOf s ++ more) (0 + i)
   unfolding recordAt
-  record-after i h = rw (zero-add k, zero-add i, later i) refl
+  record-after i h = rw (zero-add k, zero-add i, later i)
 
   session-first : sessionAt t (s ++ more) 0 k ≡ blockSession t s
   unfolding blockSession
@@ -96,7 +96,7 @@ module _ (t : Session) (s more : List ℕ) where
 -- fewer bytes than a record are a tail
 printed-tail : (t : Session) (s : List ℕ) → length s < size → printedFrom t s ≡ endOf t s
 unfolding printedFrom blockLines blockSession tailOf linesOf sessionAt
-printed-tail t s h = let e : recordsIn s ≡ 0 = omega arith in rw e refl
+printed-tail t s h = let e : recordsIn s ≡ 0 = omega arith in rw e
 
 reads-from : (pieces : List (List ℕ)) (t : Session) (rest : List ℕ) → length rest < size →
     printedBy t rest pieces ≡ printedFrom t (rest ++ joined pieces)
@@ -124,7 +124,7 @@ tail-refused t (b ∷ bs) h k =
 history-from : (s : List ℕ) (count : ℕ) → sessionAt opened s 0 count ≡ sessionOf (callsOf s count)
 unfolding sessionAt answerAt sessionOf callsOf
 history-from s zero = refl
-history-from s (suc count) = rw (history-from s count, zero-add count) refl
+history-from s (suc count) = rw (history-from s count, zero-add count)
 
 pub session-of-history : SessionOfHistory
 unfolding blockSession
@@ -136,20 +136,20 @@ module _ (t : Session) (total : ℕ) (buffer text : List ℕ) where
   pub no-bytes : length buffer < total → Took t total buffer text (record { session = t; held = total; text = TooShort }) buffer text
   no-bytes h =
       let e : takes total buffer text ≡ false = simp (lt-leb _ _ h) in
-      record { session = rw e refl; held = rw e refl; left-over = rw e refl; lines = too-short e }
+      record { session = rw e; held = rw e; left-over = rw e; lines = too-short e }
 
   module _ (h : total ≤ length buffer) (r : Block) (text′ : List ℕ) (c : Converted t (take total buffer) text r text′) where
     abbrev s : List ℕ
     s = take total buffer
 
     alike : takes total buffer text ≡ blockFits s text
-    alike = rw (le-leb _ _ h) refl
+    alike = rw (le-leb _ _ h)
 
     pub no-text : r .text ≡ TooShort → Took t total buffer text (record { session = r .session; held = total; text = r .text }) buffer text′
     no-text e =
         let b : blockFits s text ≡ false = was-too-short (blockFits s text) (c .lines) e in
         let f : takes total buffer text ≡ false = alike ∙ b in
-        record { session = rw f (rw b at (c .session)); held = rw f refl; left-over = rw f refl; lines = rw alike (c .lines) }
+        record { session = rw f (rw b at (c .session)); held = rw f; left-over = rw f; lines = rw alike (c .lines) }
 
     held-is : length (tailOf s) ≡ total % size
     held-is = let l = length-take-le total buffer h in let m = tail-length t s [] in omega arith
@@ -167,7 +167,7 @@ module _ (t : Session) (total : ℕ) (buffer text : List ℕ) where
         record {
           session = rw f (rw b at (c .session));
           held = rw f (sym held-is);
-          left-over = rw f (p ∙ rw (from, n) refl);
+          left-over = rw f (p ∙ rw (from, n));
           lines = rw alike (c .lines);
         }
 
@@ -195,4 +195,4 @@ pub end-some : (t : Session) (tail : List ℕ) (fed : Fed) (room : ℕ) → (len
     endOf t tail ≡ lineOf (meaning (fed .answer)) ++ closingOf (fed .session)
 unfolding endOf
 end-some t [] fed room h e a s = absurd (h refl)
-end-some t (b ∷ tail) fed room h e a s = rw (a, s, e) refl
+end-some t (b ∷ tail) fed room h e a s = rw (a, s, e)

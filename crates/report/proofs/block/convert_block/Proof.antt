@@ -34,9 +34,9 @@ abbrev μ-loop : tie.MeasureT-loop
 returns : tie.Need-returns Inv-loop μ-loop
 returns c =
     let a = c .before .before .before .args in
-    let n : length (now (a .text)) < lineRoom * recordsIn (now (a .input)) = omega (arith, c .if1 .taken) in
+    let n : length (now (a .text)) < lineRoom * recordsIn (now (a .input)) = omega arith in
     let e : blockFits (now (a .input)) (now (a .text)) ≡ false = lt-leb _ _ n in
-    record { session = rw e refl; lines = too-short e }
+    record { session = rw e; lines = too-short e }
 
 loop-holds : tie.Need-loop-holds Inv-loop μ-loop
 loop-holds c =
@@ -44,7 +44,7 @@ loop-holds c =
       refl,
       record {
         fed = omega arith;
-        room = omega (arith, c .if1 .left);
+        room = omega arith;
         bound = omega arith;
         piece = refl;
         kept = refl;
@@ -92,9 +92,9 @@ loop-again c =
     let s = l .inv .1 in (
       l .inv .0,
       record {
-        fed = omega (arith, turn .loop-test .taken, l .inv .0);
+        fed = omega (arith, l .inv .0);
         room = s .room;
-        bound = omega (arith, s .bound, put .ensures .1);
+        bound = omega (arith, put .ensures .1);
         piece = fed .kept .1 .1 .0 ∙ s .piece;
         kept = put .kept .0 ∙ s .kept;
         progress = one-more (s .progress) (fed .result) (length (l .output)) (s .piece) (fed .ensures .0) (fed .ensures .1 .0) (put .ensures .0);
@@ -110,11 +110,11 @@ returns-2 c =
     let a = c .before .before .before .before .before .args in
     let l = c .before .loop in
     let s = l .inv .1 in
-    let n : l .i ≡ recordsIn (now (a .input)) = omega (arith, s .fed, c .loop-test .left, l .inv .0) in
+    let n : l .i ≡ recordsIn (now (a .input)) = omega arith in
     let e : blockFits (now (a .input)) (now (a .text)) ≡ true = le-leb _ _ (s .room) in
     record {
       session = rw e (s .progress .session ∙ ap (sessionAt (a .session) (now (a .input)) 0) n);
-      lines = placed e (rw n at (s .progress .lines)) (omega (arith, s .bound, s .room, s .fed, s .kept));
+      lines = placed e (rw n at (s .progress .lines)) (omega arith);
     }
 
 pub convert-block-spec : {M : Type 1} → statement M

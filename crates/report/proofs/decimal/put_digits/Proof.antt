@@ -30,7 +30,7 @@ abbrev μ-loop : tie.MeasureT-loop
 stored : (l : List ℕ) (k v : ℕ) → k < length l → drop k (set l k v) ≡ v ∷ drop (suc k) l
 stored l k v h =
     let b : k < length (set l k v) = simp length-set h in
-    drop-cons (set l k v) k 0 b ∙ rw (getD-set-same l k v 0 h, drop-set-lt (suc k) l k v (le-refl (suc k))) refl
+    drop-cons (set l k v) k 0 b ∙ rw (getD-set-same l k v 0 h, drop-set-lt (suc k) l k v (le-refl (suc k)))
 
 module _ (text₀ : List ℕ) (at count n : ℕ) (text : List ℕ) (j rest : ℕ) (s : State text₀ at count n text (suc j) rest) where
   abbrev digit : ℕ
@@ -47,13 +47,13 @@ module _ (text₀ : List ℕ) (at count n : ℕ) (text : List ℕ) (j rest : ℕ
   unfolding lastDigits
   behind-next =
       let e : suc (at + j) ≡ at + suc j = omega arith in
-      let b : at + j < length text = omega (arith, s .size, s .room, s .passed) in
+      let b : at + j < length text = omega arith in
       rw (stored text (at + j) digit b, e) (sym (append-snoc (lastDigits j (rest / 10)) digit (drop (at + suc j) text)))
 
   one-less : State text₀ at count n (set text (at + j) digit) j (rest / 10)
   one-less =
       record {
-        passed = omega (arith, s .passed);
+        passed = omega arith;
         room = s .room;
         size = length-set text (at + j) digit ∙ s .size;
         front = front-next;
@@ -72,7 +72,7 @@ done : (text₀ : List ℕ) (at count n : ℕ) (text : List ℕ) (i rest : ℕ) 
 unfolding lastDigits
 done text₀ at count n text (suc j) rest s h = absurd (omega arith)
 done text₀ at count n text zero rest s h =
-    sym (take-append-drop at text) ∙ rw (rw (add-zero at) at (s .front), rw (add-zero at) at (s .behind)) refl
+    sym (take-append-drop at text) ∙ rw (rw (add-zero at) at (s .front), rw (add-zero at) at (s .behind))
 
 loop-holds : tie.Need-loop-holds Inv-loop μ-loop
 loop-holds c = record { passed = le-refl _; room = c .pre; size = refl; front = refl; behind = refl }

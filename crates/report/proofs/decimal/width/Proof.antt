@@ -57,13 +57,11 @@ loop-again c =
 -- 0 has one digit; any other number is not below the power
 counted : (n power count : ℕ) → State n power count → n / 10 < power → count ≡ length (decimalOf n)
 unfolding decimalOf
-counted zero power count s h = let l = s .low in let f = s .few in let m = s .some in omega arith
+counted zero power count s h = let m = s .some in omega arith
 counted (suc m) power count s h =
     let n : ℕ = suc m in
-    let some : 1 ≤ count = s .some in
     let e : suc (count - 1) ≡ count = omega arith in
-    let p : power ≡ 10 ^ (count - 1) = s .is in
-    sym (decimal-length (count - 1) n (omega arith) (omega (arith, s .low, s .few)) (omega arith) ∙ e)
+    sym (decimal-length (count - 1) n (omega arith) (omega arith) (omega arith) ∙ e)
 
 returns : tie.Need-returns Inv-loop μ-loop
 returns c =

@@ -19,7 +19,7 @@ returns-2 : tie.Need-returns-2
 returns-2 c =
     let test = c .before .before .before .before in
     let put = c .before .before .put-line in
-    placed (le-leb _ _ (test .if1 .left)) (put .ensures .0) (omega (arith, put .ensures .1, put .kept .0, test .if1 .left))
+    placed (le-leb _ _ (test .if1 .left)) (put .ensures .0) (omega arith)
 
 pub answer-line-spec : {M : Type 1} → statement M
 answer-line-spec = tie.close (tie.spec returns put-line-requires same-length returns-2)

@@ -82,7 +82,7 @@ put-bytes-requires c κs = search needs
 put-decimal-requires : tie.Need-put-decimal-requires
 put-decimal-requires c κs =
     let p = c .before .before .before in
-    omega (arith, after1 p, short (start1 p), start1 p .pre)
+    omega (arith, short (start1 p), start1 p .pre)
 
 slice-aggregate-put-bytes-2 : tie.Need-slice-aggregate-put-bytes-2
 slice-aggregate-put-bytes-2 c = search needs
@@ -95,7 +95,7 @@ put-bytes-requires-2 c κs =
 put-decimal-requires-2 : tie.Need-put-decimal-requires-2
 put-decimal-requires-2 c κs =
     let p = c .before .before .before in
-    omega (arith, after3 p, short (start3 p), start3 p .pre)
+    omega (arith, short (start3 p), start3 p .pre)
 
 put-byte-requires : tie.Need-put-byte-requires
 put-byte-requires c κs =

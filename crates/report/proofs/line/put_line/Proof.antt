@@ -117,7 +117,7 @@ cast-put-decimal c = search needs
 put-decimal-requires : tie.Need-put-decimal-requires
 put-decimal-requires c κs =
     let p = c .before .before .before in
-    omega (arith, refusal1 p, number-le p, start4 p .pre)
+    omega (arith, number-le p, start4 p .pre)
 
 put-byte-requires-3 : tie.Need-put-byte-requires-3
 put-byte-requires-3 c κs =
@@ -146,7 +146,7 @@ returns-2 c =
     let q = p .before .before .before .before in
     let n = q .before .before .before .before in
     let w = behind (at-le (start5 q)) (refusal2 q) 1 (p .put-byte3 .ensures) (omega (arith, p .put-byte3 .ensures .behind)) (p .put-byte3 .kept .0) in
-    (rw (n .before .before .before .before .answer2 .given .1) (simp append-assoc at (w .put)), omega (arith, w .bound))
+    (rw (n .before .before .before .before .answer2 .given .1) (simp append-assoc at (w .put)), omega arith)
 
 pub put-line-spec : {M : Type 1} → statement M
 put-line-spec =

@@ -69,7 +69,7 @@ module _ (l : List ℕ) (from to : ℕ) (h : to ≤ length l) where
   done i e =
       let len = length-moving in
       let n : i ≡ to - from = omega arith in
-      rw (take-all i (moving l from to) (omega arith), n) refl
+      rw (take-all i (moving l from to) (omega arith), n)
 
 loop-holds : tie.Need-loop-holds Inv-loop μ-loop
 loop-holds c = record { source = omega arith; passed = c .pre .0; room = c .pre .1; size = refl; is = refl }

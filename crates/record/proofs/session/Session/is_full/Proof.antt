@@ -15,13 +15,12 @@ sub-result c = search needs
 returns : tie.Need-returns
 returns c =
     let s = c .before .before .before .before .args .self in
-    let h = c .before .before .if1 .taken in
     same-test (cap - s .moved) (s .refused) cap (s .moved + s .refused) (λ k. omega arith) (λ k. omega arith)
 
 returns-2 : tie.Need-returns-2
 returns-2 c =
     let s = c .before .before .args .self in
-    sym (le-leb cap (s .moved + s .refused) (omega (arith, c .if1 .left)))
+    sym (le-leb cap (s .moved + s .refused) (omega arith))
 
 pub is-full-spec : {M : Type 1} → statement M
 is-full-spec = tie.close (tie.spec sub-result returns returns-2)
