@@ -3,14 +3,13 @@ use mathlib.Core.Bool.{Bool, true, false, cond}
 use mathlib.Core.List.{List, [], _∷_}
 use mathlib.Core.Path.{_≡_}
 use Prim.Native.Nat.{ℕ}
-use lib.IntN.{ℤ, natAbs}
+use lib.IntN.{ℤ}
 use Rattle.projection.specs.declared.table.Row.{Row}
 use Rattle.projection.specs.Table.{rowOf}
-use Rattle.projection.specs.Parallel.{halfWidth}
 use Rattle.projection.specs.Forward.{placeOf}
 use Rattle.projection.specs.Inverse.{positionOf}
 use Rattle.projection.specs.Refusal.{Refusal, refused, given, OfNumber, unless, badKind, badCentral, badLongitude, badLatitude, badY, badX}
-use Rattle.projection.specs.Answer.{widthOf, forwardOf, onRow, inverseOf}
+use Rattle.projection.specs.Answer.{forwardOf, onRow, inverseOf}
 
 -- a refusal applies, or not
 abbrev pub Applies : Refusal → Type 0
@@ -34,39 +33,7 @@ unless-number P (r ∷ rs) a h = go (r .applies) (unless-number P rs a (h .1))
     go true k = h .0
     go false k = k
 
-module _ (kind : ℕ) (latitude : ℤ) where
-  pub width-1 : Applies (badKind kind) → refused 1 ≡ widthOf kind latitude
-  unfolding widthOf unless
-  width-1 k = cc
-
-  pub width-5 : Passes (badKind kind) → Applies (badLatitude latitude) → refused 5 ≡ widthOf kind latitude
-  unfolding widthOf unless
-  width-5 k f = cc
-
-  pub width-given : Passes (badKind kind) → Passes (badLatitude latitude) →
-      given (halfWidth (rowOf kind) (natAbs latitude)) ≡ widthOf kind latitude
-  unfolding widthOf unless
-  width-given k f = cc
-
 module _ (kind : ℕ) (central longitude latitude : ℤ) where
-  pub forward-1 : Applies (badKind kind) → refused 1 ≡ forwardOf kind central longitude latitude
-  unfolding forwardOf unless
-  forward-1 k = cc
-
-  pub forward-3 : Passes (badKind kind) → Applies (badCentral central) → refused 3 ≡ forwardOf kind central longitude latitude
-  unfolding forwardOf unless
-  forward-3 k c = cc
-
-  pub forward-4 : Passes (badKind kind) → Passes (badCentral central) → Applies (badLongitude longitude) →
-      refused 4 ≡ forwardOf kind central longitude latitude
-  unfolding forwardOf unless
-  forward-4 k c l = cc
-
-  pub forward-5 : Passes (badKind kind) → Passes (badCentral central) → Passes (badLongitude longitude) →
-      Applies (badLatitude latitude) → refused 5 ≡ forwardOf kind central longitude latitude
-  unfolding forwardOf unless
-  forward-5 k c l f = cc
-
   pub forward-given : Passes (badKind kind) → Passes (badCentral central) → Passes (badLongitude longitude) →
       Passes (badLatitude latitude) →
       given (placeOf (rowOf kind) central longitude latitude) ≡ forwardOf kind central longitude latitude
@@ -74,14 +41,6 @@ module _ (kind : ℕ) (central longitude latitude : ℤ) where
   forward-given k c l f = cc
 
 module _ (kind : ℕ) (central x y : ℤ) where
-  pub inverse-1 : Applies (badKind kind) → refused 1 ≡ inverseOf kind central x y
-  unfolding inverseOf unless
-  inverse-1 k = cc
-
-  pub inverse-3 : Passes (badKind kind) → Applies (badCentral central) → refused 3 ≡ inverseOf kind central x y
-  unfolding inverseOf unless
-  inverse-3 k c = cc
-
   pub inverse-row : Passes (badKind kind) → Passes (badCentral central) →
       onRow (rowOf kind) central x y ≡ inverseOf kind central x y
   unfolding inverseOf onRow unless

@@ -1,7 +1,6 @@
 -- Text put into a buffer.
 use mathlib.Core.Path.{_≡_, refl, sym, ap, _∙_, subst}
 use mathlib.Core.Bool.{Bool, true, false}
-use mathlib.Core.Option.{none, some}
 use mathlib.Core.List.{List, [], _∷_, _++_, append-assoc}
 use Prim.Native.Nat.{ℕ, _+_, _≤_, _<_}
 use native.Mathlib.Nat.{zero-add}
@@ -16,7 +15,7 @@ use mir.Facts.{toZ-ofZ}
 use Rattle.report.specs.declared.buffer.Text.{Text}
 use Rattle.report.specs.declared.buffer.Text.the-variants.{Bytes, TooShort}
 use Rattle.report.specs.Decimal.{numberText}
-use Rattle.report.specs.Buffer.{putAt, putFront, bytes, Put, Placed}
+use Rattle.report.specs.Buffer.{putAt, putFront, Put, Placed}
 
 pub put-byte : (l : List ℕ) (at byte : ℕ) → at < length l → Put l at (byte ∷ []) (at + 1) (set l at byte)
 unfolding putAt

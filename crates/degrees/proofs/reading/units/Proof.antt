@@ -3,7 +3,6 @@ use mathlib.Core.Path.{_≡_}
 use borrow.Author.Needs.{needs}
 use Rattle.degrees.specs.Held.{held}
 use Rattle.degrees.specs.Reading.{units}
-use Rattle.degrees.proofs.Numbers.{held-back}
 use Rattle.degrees.proofs.reading.units.Statement.{statement}
 use Rattle.degrees.proofs.reading.units.Tie as tie
 

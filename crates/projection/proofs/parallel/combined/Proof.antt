@@ -5,13 +5,10 @@ use native.Mathlib.Nat.{mul-le-mul-right}
 use native.Mathlib.Omega.{arith}
 use borrow.Author.Needs.{needs}
 use lib.IntN.{ℤ}
-use mir.Syntax.{w32}
-use mir.Val.{SFits, toZ, ofZ}
-use mir.Facts.{toZ-ofZ}
-use Rattle.whole.specs.declared.Signed.{Signed}
-use Rattle.whole.specs.Signed.{splitOf, joinOf, plus, minus}
-use Rattle.whole.proofs.Signs.{parts, join-split}
+use Rattle.whole.specs.Signed.{plus, minus}
+use Rattle.whole.proofs.Signs.{parts}
 use Rattle.projection.specs.Columns.{Combines}
+use Rattle.projection.proofs.Judged.{number-is}
 use Rattle.projection.proofs.Widths.{combined-is}
 use Rattle.projection.proofs.parallel.combined.Statement.{statement}
 use Rattle.projection.proofs.parallel.combined.Tie as tie
@@ -36,23 +33,19 @@ products {x} {u} {y} {v} f =
       y-minus = product-small (minus y) v (omega arith) (f .v-small);
     }
 
--- a number that was taken apart is the number itself
-joined : {s : Signed} {z : ℤ} → s ≡ splitOf (toZ w32 (ofZ w32 z)) → SFits w32 z → joinOf s ≡ z
-joined {s} {z} e f = ap joinOf e ∙ join-split (toZ w32 (ofZ w32 z)) ∙ toZ-ofZ f
-
 plus-x : (c : tie.After-plus) → c .plus .result ≡ plus (c .before .before .before .args .x)
-plus-x c = c .plus .ensures ∙ ap plus (joined (c .before .before .split .ensures) (c .before .before .before .fits .x))
+plus-x c = c .plus .ensures ∙ ap plus (number-is _ (c .before .before .before .fits .x) (c .before .before .split .ensures))
 
 plus-y : (c : tie.After-plus2) → c .plus2 .result ≡ plus (c .before .before .before .before .args .y)
-plus-y c = c .plus2 .ensures ∙ ap plus (joined (c .before .before .split2 .ensures) (c .before .before .before .before .fits .y))
+plus-y c = c .plus2 .ensures ∙ ap plus (number-is _ (c .before .before .before .before .fits .y) (c .before .before .split2 .ensures))
 
 minus-x : (c : tie.After-minus) → c .minus .result ≡ minus (c .before .before .before .before .before .args .x)
 minus-x c =
-    c .minus .ensures ∙ ap minus (joined (c .before .before .before .before .split .ensures) (c .before .before .before .before .before .fits .x))
+    c .minus .ensures ∙ ap minus (number-is _ (c .before .before .before .before .before .fits .x) (c .before .before .before .before .split .ensures))
 
 minus-y : (c : tie.After-minus2) → c .minus2 .result ≡ minus (c .before .before .before .before .before .before .args .y)
 minus-y c =
-    c .minus2 .ensures ∙ ap minus (joined (c .before .before .before .before .split2 .ensures) (c .before .before .before .before .before .before .fits .y))
+    c .minus2 .ensures ∙ ap minus (number-is _ (c .before .before .before .before .before .before .fits .y) (c .before .before .before .before .split2 .ensures))
 
 split-requires : tie.Need-split-requires
 split-requires c κs = search needs

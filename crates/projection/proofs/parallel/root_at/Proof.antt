@@ -1,7 +1,7 @@
 -- `projection::parallel::root_at` meets its contract, a return for each method.
 use native.Mathlib.Omega.{arith}
 use borrow.Author.Needs.{needs}
-use Rattle.projection.specs.Parallel.{radicand, rootBy, rootAt}
+use Rattle.projection.specs.Parallel.{rootBy, rootAt}
 use Rattle.projection.proofs.Widths.{radicand-small}
 use Rattle.projection.proofs.parallel.root_at.Statement.{statement}
 use Rattle.projection.proofs.parallel.root_at.Tie as tie

@@ -1,14 +1,14 @@
 -- `projection::place::forward` meets its contract: its tests are the conditions of the refusals, in their order.
-use mathlib.Core.Path.{_≡_, sym, ap, _∙_}
-use mathlib.Core.Bool.{not}
+use mathlib.Core.Path.{_≡_, _∙_}
 use borrow.Author.Needs.{needs}
 use lib.Dec.{T}
 use Rattle.whole.specs.Signed.{joinOf}
-use Rattle.projection.specs.Angle.{N, H, outside}
-use Rattle.projection.specs.Refusal.{isKind, badKind, badCentral, badLongitude, badLatitude}
+use Rattle.projection.specs.Angle.{N, H}
+use Rattle.projection.specs.Refusal.{unless, isKind, badKind, badCentral, badLongitude, badLatitude}
 use Rattle.projection.proofs.Rows.{columns}
 use Rattle.projection.proofs.Judged.{not-false, number-is, within}
-use Rattle.projection.proofs.Orders.{Passes, forward-1, forward-3, forward-4, forward-5, forward-given}
+use Rattle.projection.specs.Answer.{forwardOf}
+use Rattle.projection.proofs.Orders.{Passes, forward-given}
 use Rattle.projection.proofs.place.forward.Statement.{statement}
 use Rattle.projection.proofs.place.forward.Tie as tie
 
@@ -25,10 +25,7 @@ start3 c = start2 (c .before .before .before)
 abbrev start4 : tie.Else4 → tie.Start
 start4 c = start3 (c .before .before .before)
 
--- the test of the kind is the refusal's condition
-kind-test : (c : tie.After-is-kind) → not (c .is-kind .result) ≡ badKind (c .before .args .kind) .applies
-kind-test c = cc
-
+-- a test that is passed is the refusal's condition, which does not hold
 kind-good : (c : tie.Else1) → Passes (badKind (start1 c .args .kind))
 kind-good c = cc
 
@@ -42,33 +39,21 @@ longitude-is c = number-is (c .new2 .result .count) (start2 (c .before) .fits .l
 latitude-is : (c : tie.After-new3) → joinOf (c .new3 .result .count) ≡ start3 (c .before) .args .latitude
 latitude-is c = number-is (c .new3 .result .count) (start3 (c .before) .fits .latitude) (c .new3 .ensures)
 
--- so is the test of each angle
-central-test : (c : tie.After-outside) → c .outside .result ≡ badCentral (start1 (c .before .before) .args .central) .applies
-central-test c = c .outside .ensures ∙ ap (outside N) (central-is (c .before))
-
-longitude-test : (c : tie.After-outside2) →
-    c .outside2 .result ≡ badLongitude (start2 (c .before .before) .args .longitude) .applies
-longitude-test c = c .outside2 .ensures ∙ ap (outside N) (longitude-is (c .before))
-
-latitude-test : (c : tie.After-outside3) → c .outside3 .result ≡ badLatitude (start3 (c .before .before) .args .latitude) .applies
-latitude-test c = c .outside3 .ensures ∙ ap (outside H) (latitude-is (c .before))
-
 central-good : (c : tie.Else2) → Passes (badCentral (start2 c .args .central))
-central-good c = sym (central-test (c .before)) ∙ c .if2 .left
+central-good c = rw (c .before .outside .ensures, central-is (c .before .before)) at (c .if2 .left)
 
 longitude-good : (c : tie.Else3) → Passes (badLongitude (start3 c .args .longitude))
-longitude-good c = sym (longitude-test (c .before)) ∙ c .if3 .left
+longitude-good c = rw (c .before .outside2 .ensures, longitude-is (c .before .before)) at (c .if3 .left)
 
 latitude-good : (c : tie.Else4) → Passes (badLatitude (start4 c .args .latitude))
-latitude-good c = sym (latitude-test (c .before)) ∙ c .if4 .left
+latitude-good c = rw (c .before .outside3 .ensures, latitude-is (c .before .before)) at (c .if4 .left)
 
 is-kind-requires : tie.Need-is-kind-requires
 is-kind-requires c κs = search needs
 
 returns : tie.Need-returns
-returns c =
-    let s = c .before .before .args in
-    forward-1 (s .kind) (s .central) (s .longitude) (s .latitude) (sym (kind-test (c .before)) ∙ c .if1 .taken)
+unfolding forwardOf unless
+returns c = rw (← c .before .is-kind .ensures, c .if1 .taken)
 
 new-requires : tie.Need-new-requires
 new-requires c κs = search needs
@@ -77,10 +62,8 @@ outside-requires : tie.Need-outside-requires
 outside-requires c κs = search needs
 
 returns-2 : tie.Need-returns-2
-returns-2 c =
-    let c1 = c .before .before .before in
-    let s = start1 c1 .args in
-    forward-3 (s .kind) (s .central) (s .longitude) (s .latitude) (kind-good c1) (sym (central-test (c .before)) ∙ c .if2 .taken)
+unfolding forwardOf unless
+returns-2 c = rw (kind-good (c .before .before .before), ← central-is (c .before .before), ← c .before .outside .ensures, c .if2 .taken)
 
 new-requires-2 : tie.Need-new-requires-2
 new-requires-2 c κs = search needs
@@ -89,11 +72,10 @@ outside-requires-2 : tie.Need-outside-requires-2
 outside-requires-2 c κs = search needs
 
 returns-3 : tie.Need-returns-3
+unfolding forwardOf unless
 returns-3 c =
     let c2 = c .before .before .before in
-    let s = start2 c2 .args in
-    forward-4 (s .kind) (s .central) (s .longitude) (s .latitude) (kind-good (c2 .before .before .before)) (central-good c2)
-    (sym (longitude-test (c .before)) ∙ c .if3 .taken)
+    rw (kind-good (c2 .before .before .before), central-good c2, ← longitude-is (c .before .before), ← c .before .outside2 .ensures, c .if3 .taken)
 
 new-requires-3 : tie.Need-new-requires-3
 new-requires-3 c κs = search needs
@@ -102,12 +84,11 @@ outside-requires-3 : tie.Need-outside-requires-3
 outside-requires-3 c κs = search needs
 
 returns-4 : tie.Need-returns-4
+unfolding forwardOf unless
 returns-4 c =
     let c3 = c .before .before .before in
     let c2 = c3 .before .before .before in
-    let s = start3 c3 .args in
-    forward-5 (s .kind) (s .central) (s .longitude) (s .latitude) (kind-good (c2 .before .before .before)) (central-good c2) (longitude-good c3)
-    (sym (latitude-test (c .before)) ∙ c .if4 .taken)
+    rw (kind-good (c2 .before .before .before), central-good c2, longitude-good c3, ← latitude-is (c .before .before), ← c .before .outside3 .ensures, c .if4 .taken)
 
 kind-true : (c : tie.Else4) → T (isKind (start4 c .args .kind))
 kind-true c = let c2 = c .before .before .before .before .before .before in not-false (isKind (start4 c .args .kind)) (kind-good (c2 .before .before .before))

@@ -1,14 +1,14 @@
 -- `projection::position::inverse` meets its contract: its tests are the conditions of 1 and 3, and its row answers the rest.
-use mathlib.Core.Path.{_≡_, sym, ap, _∙_}
-use mathlib.Core.Bool.{not}
+use mathlib.Core.Path.{_≡_, _∙_}
 use borrow.Author.Needs.{needs}
 use lib.Dec.{T}
 use Rattle.whole.specs.Signed.{joinOf}
-use Rattle.projection.specs.Angle.{N, outside}
-use Rattle.projection.specs.Refusal.{isKind, badKind, badCentral}
+use Rattle.projection.specs.Angle.{N}
+use Rattle.projection.specs.Refusal.{unless, isKind, badKind, badCentral}
 use Rattle.projection.proofs.Rows.{columns}
 use Rattle.projection.proofs.Judged.{not-false, number-is, within}
-use Rattle.projection.proofs.Orders.{Passes, inverse-1, inverse-3, inverse-row}
+use Rattle.projection.specs.Answer.{inverseOf}
+use Rattle.projection.proofs.Orders.{Passes, inverse-row}
 use Rattle.projection.proofs.position.inverse.Statement.{statement}
 use Rattle.projection.proofs.position.inverse.Tie as tie
 
@@ -19,21 +19,15 @@ start1 c = c .before .before
 abbrev start2 : tie.Else2 → tie.Start
 start2 c = start1 (c .before .before .before)
 
--- each test is the refusal's condition
-kind-test : (c : tie.After-is-kind) → not (c .is-kind .result) ≡ badKind (c .before .args .kind) .applies
-kind-test c = cc
-
+-- a test that is passed is the refusal's condition, which does not hold
 kind-good : (c : tie.Else1) → Passes (badKind (start1 c .args .kind))
 kind-good c = cc
 
 central-is : (c : tie.After-new) → joinOf (c .new .result .count) ≡ start1 (c .before) .args .central
 central-is c = number-is (c .new .result .count) (start1 (c .before) .fits .central) (c .new .ensures)
 
-central-test : (c : tie.After-outside) → c .outside .result ≡ badCentral (start1 (c .before .before) .args .central) .applies
-central-test c = c .outside .ensures ∙ ap (outside N) (central-is (c .before))
-
 central-good : (c : tie.Else2) → Passes (badCentral (start2 c .args .central))
-central-good c = sym (central-test (c .before)) ∙ c .if2 .left
+central-good c = rw (c .before .outside .ensures, central-is (c .before .before)) at (c .if2 .left)
 
 x-is : (c : tie.After-split) → joinOf (c .split .result) ≡ start2 (c .before .before) .args .x
 x-is c = number-is (c .split .result) (start2 (c .before .before) .fits .x) (c .split .ensures)
@@ -45,9 +39,8 @@ is-kind-requires : tie.Need-is-kind-requires
 is-kind-requires c κs = search needs
 
 returns : tie.Need-returns
-returns c =
-    let s = c .before .before .args in
-    inverse-1 (s .kind) (s .central) (s .x) (s .y) (sym (kind-test (c .before)) ∙ c .if1 .taken)
+unfolding inverseOf unless
+returns c = rw (← c .before .is-kind .ensures, c .if1 .taken)
 
 new-requires : tie.Need-new-requires
 new-requires c κs = search needs
@@ -56,10 +49,8 @@ outside-requires : tie.Need-outside-requires
 outside-requires c κs = search needs
 
 returns-2 : tie.Need-returns-2
-returns-2 c =
-    let c1 = c .before .before .before in
-    let s = start1 c1 .args in
-    inverse-3 (s .kind) (s .central) (s .x) (s .y) (kind-good c1) (sym (central-test (c .before)) ∙ c .if2 .taken)
+unfolding inverseOf unless
+returns-2 c = rw (kind-good (c .before .before .before), ← central-is (c .before .before), ← c .before .outside .ensures, c .if2 .taken)
 
 kind-true : (c : tie.Else2) → T (isKind (start2 c .args .kind))
 kind-true c = not-false (isKind (start2 c .args .kind)) (kind-good (c .before .before .before))

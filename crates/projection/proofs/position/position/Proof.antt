@@ -104,9 +104,7 @@ unscaled-requires : tie.Need-unscaled-requires
 unscaled-requires c κs = omega (arith, height-le (start1 c .args .row) H (omega arith))
 
 row-half-width-requires : tie.Need-row-half-width-requires
-row-half-width-requires c κs =
-    let u = usable c in
-    record { columns = u .columns; latitude = omega arith }
+row-half-width-requires c κs = usable c
 
 x-bad : (c : tie.Then2) →
     let s = start1 (c .before .before .before .before) .args in
