@@ -1,5 +1,5 @@
 -- A float with its sign turned is judged as it was, and read as the number turned.
-use mathlib.Core.Bool.{Bool, Bool·beq, true, false, _&&_, _||_}
+use mathlib.Core.Bool.{and-eq-true-iff, Bool, Bool·beq, true, false, _||_}
 use mathlib.Core.Path.{_≡_, refl, sym, _∙_}
 use Prim.Native.Nat.{ℕ, _*_}
 use native.Mathlib.Nat.{zero-mul, mul-one}
@@ -38,16 +38,12 @@ either-sign : (s : Bool) → withSign s 0 ≡ pos 0
 either-sign true = refl
 either-sign false = refl
 
-left : (a b : Bool) → (a && b) ≡ true → a ≡ true
-left true b h = refl
-left false b h = h
-
 pub read-zero : (j : ℕ) (x : Float) → Ieee.eq x (ofInt binary64 (pos 0)) ≡ true → readOf j x ≡ pos 0
 unfolding Ieee.eq ofInt round readOf
 read-zero j nan h = refl
 read-zero j (inf s) h = refl
 read-zero j (fin s m e) h =
     let n = m * up e * 1 in
-    let k = eqb-true n (0 * down e) (left (eqb n (0 * down e)) (Bool·beq s false || eqb n 0) h) in
+    let k = eqb-true n (0 * down e) (and-eq-true-iff (eqb n (0 * down e)) (Bool·beq s false || eqb n 0) .0 h .0) in
     let z : m * up e ≡ 0 = sym (mul-one (m * up e)) ∙ k ∙ zero-mul (down e) in
     rw (z, zero-mul j, nearest-zero (down e)) (either-sign s)

@@ -1,20 +1,20 @@
 -- `degrees::position::inverse_degrees` meets its contract: its tests are the conditions of the refusals, in their order, and
 -- the rest is answered by `inverse` at the numbers read.
-use mathlib.Core.Bool.{not}
 use mathlib.Core.Path.{_≡_, sym, ap, _∙_}
 use borrow.Author.Needs.{needs}
 use borrow.Author.Tests.{not-true, not-false}
+use lib.Ieee.Scale.{finite}
 use mir.Syntax.{w32}
 use mir.Val.{toZ, ofZ}
-use Rattle.projection.specs.Refusal.{badKind}
+use Rattle.projection.specs.Refusal.{unless, badKind}
 use Rattle.projection.specs.Answer.{meaning, inverseOf as inverseNumbers}
 use Rattle.projection.proofs.Orders.{Passes}
 use Rattle.degrees.specs.Reading.{perDegree, centiseconds, units}
 use Rattle.degrees.specs.Held.{held}
 use Rattle.degrees.specs.Refusal.{badCentral}
-use Rattle.degrees.specs.Answer.{onGiven, writtenPosition}
+use Rattle.degrees.specs.Answer.{onGiven, writtenPosition, inverseOf}
 use Rattle.degrees.proofs.Floats.{read-within, limit-180}
-use Rattle.degrees.proofs.Orders.{Finite, all-finite, inverse-1, inverse-2, inverse-3}
+use Rattle.degrees.proofs.Orders.{Finite, all-finite, any-bad}
 use Rattle.degrees.proofs.Numbers.{angle-back, held-back, inverse-numbers, inverse-held}
 use Rattle.degrees.proofs.position.inverse_degrees.Statement.{statement}
 use Rattle.degrees.proofs.position.inverse_degrees.Tie as tie
@@ -29,23 +29,17 @@ start2 c = start1 (c .before .before)
 abbrev start3 : tie.Else3 → tie.Start
 start3 c = start2 (c .before .before)
 
--- each test is the condition of its refusal
-kind-test : (c : tie.After-is-kind) → not (c .is-kind .result) ≡ badKind (c .before .args .kind) .applies
-kind-test c = ap not (c .is-kind .ensures)
-
+-- a test that is passed is the condition of its refusal, which does not hold
 kind-good : (c : tie.Else1) → Passes (badKind (start1 c .args .kind))
-kind-good c = sym (kind-test (c .before)) ∙ c .if1 .left
+kind-good c = rw (c .before .is-kind .ensures) at (c .if1 .left)
 
 all-good : (c : tie.Else2) → let s = start2 c .args in Finite (s .central) (s .x) (s .y)
 all-good c =
     let s = start2 c .args in
     all-finite (s .central) (s .x) (s .y) (sym (c .before .all-finite .ensures) ∙ not-false (c .before .all-finite .result) (c .if2 .left))
 
-central-test : (c : tie.After-outside) → c .outside .result ≡ badCentral (start2 (c .before) .args .central) .applies
-central-test c = c .outside .ensures ∙ limit-180 (start2 (c .before) .args .central)
-
 central-good : (c : tie.Else3) → Passes (badCentral (start3 c .args .central))
-central-good c = sym (central-test (c .before)) ∙ c .if3 .left
+central-good c = rw (c .before .outside .ensures, limit-180 (start3 c .args .central)) at (c .if3 .left)
 
 -- the numbers that are handed on
 central-is : (c : tie.After-centiseconds) → toZ w32 (ofZ w32 (c .centiseconds .result)) ≡ centiseconds (start3 (c .before) .args .central)
@@ -73,29 +67,29 @@ is-kind-requires : tie.Need-is-kind-requires
 is-kind-requires c κs = search needs
 
 returns : tie.Need-returns
-returns c =
-    let s = c .before .before .args in
-    inverse-1 (s .kind) (s .central) (s .x) (s .y) (sym (kind-test (c .before)) ∙ c .if1 .taken)
+unfolding inverseOf unless
+returns c = rw (← c .before .is-kind .ensures, c .if1 .taken)
 
 all-finite-requires : tie.Need-all-finite-requires
 all-finite-requires c κs = search needs
 
 returns-2 : tie.Need-returns-2
+unfolding inverseOf unless
 returns-2 c =
-    let c1 = c .before .before in
-    let s = start1 c1 .args in
-    inverse-2 (s .kind) (s .central) (s .x) (s .y) (kind-good c1)
-    (sym (c .before .all-finite .ensures) ∙ not-true (c .before .all-finite .result) (c .if2 .taken))
+    let s = start1 (c .before .before) .args in
+    rw (kind-good (c .before .before))
+    (any-bad _ (finite (s .central)) (finite (s .x)) (finite (s .y))
+    (sym (c .before .all-finite .ensures) ∙ not-true (c .before .all-finite .result) (c .if2 .taken)))
 
 outside-requires : tie.Need-outside-requires
 outside-requires c κs = search needs
 
 returns-3 : tie.Need-returns-3
+unfolding inverseOf unless
 returns-3 c =
     let c2 = c .before .before in
-    let s = start2 c2 .args in
-    inverse-3 (s .kind) (s .central) (s .x) (s .y) (kind-good (c2 .before .before)) (all-good c2)
-    (sym (central-test (c .before)) ∙ c .if3 .taken)
+    let h = all-good c2 in
+    rw (kind-good (c2 .before .before), h .first, h .second, h .third, ← limit-180 (start2 c2 .args .central), ← c .before .outside .ensures, c .if3 .taken)
 
 centiseconds-requires : tie.Need-centiseconds-requires
 centiseconds-requires c κs = (all-good (c .before .before) .first, read-within 180 perDegree (start3 c .args .central) (central-good c))

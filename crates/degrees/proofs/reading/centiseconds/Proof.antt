@@ -1,18 +1,14 @@
 -- `degrees::reading::centiseconds` meets its contract: within N nothing is cut off.
-use mathlib.Core.Path.{_≡_, _∙_}
+use mathlib.Core.Path.{_∙_}
 use Prim.Native.Nat.{min}
 use native.Mathlib.Omega.{arith}
 use borrow.Author.Needs.{needs}
 use Rattle.whole.proofs.Signs.{on-same}
-use Rattle.degrees.specs.Held.{most, held}
+use Rattle.degrees.specs.Held.{most}
 use Rattle.degrees.specs.Reading.{centiseconds}
 use Rattle.degrees.proofs.Numbers.{angle-back}
 use Rattle.degrees.proofs.reading.centiseconds.Statement.{statement}
 use Rattle.degrees.proofs.reading.centiseconds.Tie as tie
-
--- what was read is x times 360,000
-read-is : (c : tie.After-read) → c .read .result ≡ held (centiseconds (c .before .args .x))
-read-is c = c .read .ensures
 
 read-requires : tie.Need-read-requires
 read-requires c κs = search needs
@@ -21,7 +17,7 @@ returns : tie.Need-returns
 returns c =
     let x = c .before .args .x in
     let l = c .before .pre .1 in
-    angle-back x l (read-is c ∙ on-same (min most) (centiseconds x) (omega arith))
+    angle-back x l (c .read .ensures ∙ on-same (min most) (centiseconds x) (omega arith))
 
 pub centiseconds-spec : {M : Type 1} → statement M
 centiseconds-spec = tie.close (tie.spec read-requires returns)
