@@ -1,11 +1,11 @@
 -- A product of digits that is worked out in two parts, and what is read from it.
 use mathlib.Core.Path.{_≡_, sym, ap, ap₂, _∙_}
 use Prim.Native.Nat.{ℕ, _+_, _-_, _*_, _/_, _%_, _^_, _≤_, _<_}
-use native.Mathlib.Nat.{le-trans, le-of-lt, lt-of-le-of-lt, one-mul, mod-lt, mul-comm, mul-right-comm, add-mul, mul-le-mul, div-div-eq-div-mul, div-add-mod', mul-add-div-right, mul-add-mod-self-right, mod-eq-of-lt, mul-pos}
+use native.Mathlib.Nat.{le-trans, le-of-lt, lt-of-le-of-lt, mod-lt, mul-comm, mul-right-comm, add-mul, mul-le-mul, div-div-eq-div-mul, div-add-mod', mul-add-div-right, mul-add-mod-self-right, mul-pos}
 use native.Mathlib.Omega.{arith}
 use lib.Arith.{mod-mul}
 use lib.Dec.{lit<, lit≤}
-use lib.Pow.{pow-pos, pow-lt, pow-add, pow-mono}
+use lib.Pow.{pow-pos, pow-add, pow-mono}
 use Rattle.whole.specs.Nearest.{nearest}
 use Rattle.whole.proofs.Rounding.{near, nearest-scale}
 use Rattle.whole.proofs.Scales.{nearest-strict, near-ge}
@@ -37,10 +37,6 @@ halves-are n d = div-div-eq-div-mul n 4096 (2 ^ d) ∙ ap (λ (x : ℕ). n / x) 
 
 pub left-is : (n d : ℕ) → n % (2 ^ d * 4096) ≡ n / 4096 % 2 ^ d * 4096 + n % 4096
 left-is n d = mod-mul n (pow-pos d) (lit< tt)
-
--- a bit shifted by less than 64
-pub unit-is : (d : ℕ) → d < 64 → 1 * 2 ^ d % 18446744073709551616 ≡ 2 ^ d
-unit-is d h = rw (one-mul (2 ^ d)) (mod-eq-of-lt (pow-lt h))
 
 -- digits * 2 ^ p / 2 ^ 1074 times `by`, where p leaves places behind the point
 steps : (p : ℕ) → p ≤ 1061 → 1 + (1061 - p + 12) + p ≡ 1074

@@ -53,8 +53,7 @@ return n w d x b p l f g = go (eq-or-lt-of-le l)
 
 -- back and forward, on a scale below five times the other: within 2
 pub back-within : (n w x d z : ℕ) → w < 5 * n → Near (x * n) w d → Near (w * d) n z → (z ≤ x + 2) × (x ≤ z + 2)
-back-within n w x d z l f g =
-    (cancel n (rw mul-add (omega arith)), cancel n (rw mul-add (omega arith)))
+back-within n w x d z l f g = (cancel n (rw mul-add (omega arith)), cancel n (rw mul-add (omega arith)))
 
 -- a share of at most the whole is nearest to at most the whole
 pub part-le : (n w d x : ℕ) → 0 < n → d ≤ n → Near (w * d) n x → x ≤ w

@@ -18,8 +18,7 @@ pub square-lt : (a b : ℕ) → a * a < b * b → a < b
 square-lt a b h = lt-of-not-le (λ k. lt-irrefl (b * b) (lt-of-le-of-lt (square-mono k) h))
 
 root-le : {n m r s : ℕ} → n ≤ m → IsRoot n r → IsRoot m s → r ≤ s
-root-le {n} {m} {r} {s} h a b =
-    le-of-suc-le-suc (square-lt r (suc s) (omega arith))
+root-le {n} {m} {r} {s} h a b = le-of-suc-le-suc (square-lt r (suc s) (omega arith))
 
 pub root-unique : {n r s : ℕ} → IsRoot n r → IsRoot n s → r ≡ s
 root-unique {n} a b = le-antisymm (root-le (le-refl n) a b) (root-le (le-refl n) b a)

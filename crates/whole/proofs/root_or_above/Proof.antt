@@ -1,8 +1,11 @@
 -- `whole::root_or_above` meets its contract: it is a step from some number, or the greatest root.
+use Prim.Native.Nat.{_-_, _/_}
 use native.Mathlib.Omega.{arith}
 use borrow.Author.Needs.{needs}
-use lib.Count.{leading-le}
-use Rattle.whole.proofs.Newton.{power-above-0, root-small}
+use lib.Count.{leadingZeros, leading-le}
+use lib.Pow.{pow-pos}
+use Rattle.whole.proofs.Products.{shifted}
+use Rattle.whole.proofs.Newton.{root-small}
 use Rattle.whole.proofs.root_or_above.Statement.{statement}
 use Rattle.whole.proofs.root_or_above.Tie as tie
 
@@ -16,7 +19,9 @@ shl-step : tie.Need-shl-step
 shl-step c = search needs
 
 step-requires : tie.Need-step-requires
-step-requires c κs = power-above-0 _ (omega arith)
+step-requires c κs =
+    let k = (64 - leadingZeros 64 (c .args .n)) / 2 in
+    rw (shifted k (omega arith)) (pow-pos k)
 
 step-requires-2 : tie.Need-step-requires-2
 step-requires-2 c κs = search needs

@@ -5,7 +5,8 @@ use native.Mathlib.Nat.{mod-le, div-le-self}
 use native.Mathlib.Omega.{arith}
 use borrow.Author.Needs.{needs}
 use lib.Pow.{pow-pos}
-use Rattle.degrees.proofs.Digits.{high-is, low-is, product-fits, low-fits, halves-are, left-is, unit-is}
+use Rattle.whole.proofs.Products.{shifted}
+use Rattle.degrees.proofs.Digits.{high-is, low-is, product-fits, low-fits, halves-are, left-is}
 use Rattle.degrees.proofs.reading.quarters.Statement.{statement}
 use Rattle.degrees.proofs.reading.quarters.Tie as tie
 
@@ -24,7 +25,7 @@ halves-fit : (c : tie.Start) → high c / unit c < 2 ^ 60
 halves-fit c = omega (arith, high-fits c, div-le-self (high c) (unit c))
 
 unit-pos : (c : tie.Start) → 0 < unit c
-unit-pos c = rw (unit-is (c .args .drop) (c .pre .1 .0)) (pow-pos (c .args .drop))
+unit-pos c = rw (shifted (c .args .drop) (c .pre .1 .0)) (pow-pos (c .args .drop))
 
 mul-low : tie.Need-mul-low
 mul-low c = omega (arith, low-fits (c .args .digits) (c .args .by) (c .pre .1 .1))
@@ -64,7 +65,7 @@ counted : (c : tie.Start) →
 counted c =
     let n = c .args .digits * c .args .by in
     let d = c .args .drop in
-    rw (left-is n d, ← halves-are n d, ← high-is (c .args .digits) (c .args .by), unit-is d (c .pre .1 .0))
+    rw (left-is n d, ← halves-are n d, ← high-is (c .args .digits) (c .args .by), shifted d (c .pre .1 .0))
     (omega (arith, low-is (c .args .digits) (c .args .by)))
 
 returns : tie.Need-returns
