@@ -1,7 +1,7 @@
 -- Demand 2's bound: W is less than 1 away from the expression with the exact root or quotient.
 use mathlib.Core.Path.{_≡_, refl, sym, ap, _∙_}
 use Prim.Native.Nat.{ℕ, _+_, _*_, _≤_, _<_}
-use native.Mathlib.Nat.{zero-mul, mul-add, mul-comm, mul-assoc, mul-left-comm, mul-le-mul-left}
+use native.Mathlib.Nat.{zero-mul, mul-add, mul-comm, mul-le-mul-left}
 use native.Mathlib.Omega.{arith}
 use lib.IntN.{ℤ, pos, natAbs, _-ℤ_, _*ℤ_}
 use Rattle.whole.specs.Root.{IsRoot, root}
@@ -21,7 +21,7 @@ use Rattle.claims.proofs.Roots.{AtMost, AtLeast, near-root}
 
 -- x times a M + b q, each product with x inside
 regroup : (x a b q : ℕ) → x * (a * M + b * q) ≡ a * (x * M) + b * x * q
-regroup x a b q = omega (arith, mul-add x (a * M) (b * q), mul-left-comm x a M, mul-left-comm x b q, mul-assoc b x q)
+regroup x a b q = omega arith
 
 -- by the rounding alone, 2 M W - KX a M is at most M away from KX b q
 rounded : (r : Row) (p : ℕ) → Usable r p →
@@ -33,7 +33,6 @@ rounded r p u =
     let n = width-near r p u in
     let e = combined-is (r .a) M (r .b) q (numerator-whole r p u) in
     let c = sym (mul-add x (numerator r q) (minus (r .a) * M + minus (r .b) * q)) ∙ ap (λ (k : ℕ). x * k) e in
-    let d1 = regroup x (plus (r .a)) (plus (r .b)) q in
     let d2 = regroup x (minus (r .a)) (minus (r .b)) q in
     let s = less (pos (2 * M * halfWidth r p)) (r .a *ℤ pos (x * M)) in
     let a1 = plus-mul (r .a) (x * M) in
@@ -48,7 +47,6 @@ bracket : (y n q t : ℕ) → n * q ≤ t → t ≤ n * q + n → (n * (y * q) �
 bracket y n q t h k =
     let l = mul-le-mul-left y h in
     let u = mul-le-mul-left y k in
-    let e = mul-left-comm y n q in
     let d = mul-add y (n * q) n in
     (omega arith, omega arith)
 
@@ -73,8 +71,6 @@ unused y g s q z r l m =
     let i = parts y in
     let a : plus y ≡ 0 = omega arith in
     let b : minus y ≡ 0 = omega arith in
-    let l' = rw (a, b) at l in
-    let m' = rw (a, b) at m in
     near-root y g s q M r (omega arith) (rw (a, b) (omega arith)) (rw (a, b) (omega arith))
 
 slope-none : (r : Row) → natAbs (r .b) ≤ 0 → natAbs (slope r) ≤ 0

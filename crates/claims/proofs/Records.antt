@@ -103,7 +103,7 @@ module _ (h : Handing) (a : Answers h) where
       both b eb = rw (eq-eqb (length bytes) size l) eb
 
       number : (n m : ℕ) → h .answer t bytes output ≡ refused n → h .answer t bytes output ≡ refused m → n ≡ m
-      number n m en em = let z : refused n ≡ refused m = sym en ∙ em in cc
+      number n m en em = cc
 
       go : (b f : Bool) → eqb output size ≡ b → h .isFull t ≡ f → FedOn h bytes P t output
       go false f eb ef =
@@ -151,9 +151,9 @@ module _ (h : Handing) (a : Answers h) where
     unfolding recordOf bytesOf
     alike-at l p e =
         let k = Accepted.position (kindIn s) (centralIn s) l (secondIn s) p e .0 in
-        let fc = in-32 (centralIn s) (omega (arith, k .c-le)) in
-        let fl = in-32 l (omega (arith, k .l-le)) in
-        let ff = in-32 (secondIn s) (omega (arith, k .f-le)) in
+        let fc = in-32 (centralIn s) (omega arith) in
+        let fl = in-32 l (omega arith) in
+        let ff = in-32 (secondIn s) (omega arith) in
         record {
           like =
               record {

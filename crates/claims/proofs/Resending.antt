@@ -77,7 +77,7 @@ module _ (kind : ℕ) (c x y : ℤ) (p : Place kind c x y) where
 
   height-close : (height r (latitudeSize r (natAbs y)) ≤ natAbs y + 2) × (natAbs y ≤ height r (latitudeSize r (natAbs y)) + 2)
   unfolding latitudeSize height
-  height-close = size-close (r .ky) (natAbs y) (omega (arith, p .y-le, height-le r H (omega arith))) (cols .ky-high)
+  height-close = size-close (r .ky) (natAbs y) (omega (arith, height-le r H (omega arith))) (cols .ky-high)
 
   y-close : Close (yOf r f) y
   unfolding latitudeAt

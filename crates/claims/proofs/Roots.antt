@@ -33,8 +33,7 @@ below-by (negsuc u) (negsuc y) g s q m e r h k =
     lt-of-le-of-lt (mul-le-mul-left (suc y * suc y) (le-of-lt (r .high))) (rw (← mul-mul-mul-comm (suc y) (suc q) (suc y) (suc q)) (square-mono-lt l))
 
 below : (y g : ℤ) (s q m : ℕ) → IsRoot s q → natAbs y < m → AtMost g y q m → BelowRoot (g -ℤ pos (2 * m)) y s
-below y g s q m r h k =
-    below-by (g -ℤ pos (2 * m)) y g s q m (omega (arith, less g (pos (2 * m)))) r h k
+below y g s q m r h k = below-by (g -ℤ pos (2 * m)) y g s q m (omega (arith, less g (pos (2 * m)))) r h k
 
 pub near-root : (y g : ℤ) (s q m : ℕ) → IsRoot s q → natAbs y < m → AtMost g y q m → AtLeast g y q m → NearRoot y s g (2 * m)
 near-root y g s q m r h k l = (

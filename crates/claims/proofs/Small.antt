@@ -19,7 +19,7 @@ place-small kind c l f x y e =
     let p = place kind c x y (r .longitude, r .latitude) (r .accepted) .0 in
     let r = rowOf kind in
     let k = columns kind (p .kind-good) in
-    (omega (arith, p .x-le, found-small r k y (p .y-le)), omega (arith, p .y-le, pole-small r k))
+    (omega (arith, found-small r k y (p .y-le)), omega (arith, pole-small r k))
 
 pub position-small : (kind : ℕ) (c x y l f : ℤ) → inverseOf kind c x y ≡ given (l, f) → (natAbs l ≤ N) × (natAbs f ≤ H)
 position-small kind c x y l f e =

@@ -2,7 +2,7 @@
 use mathlib.Core.Bool.{Bool, Bool·beq, true, false, cond, _||_, or-false, or-true, true≢false}
 use mathlib.Core.Path.{_≡_, refl, sym, ap, _∙_}
 use Prim.Native.Nat.{ℕ, zero, suc, _+_, _*_, _/_, _%_, _^_, _≤_, _<_, zero-le}
-use native.Mathlib.Nat.{mul-one, zero-mul, mul-zero, mul-comm, mul-right-comm, mul-pos, mul-le-mul-right, eq-of-mul-eq-mul-right}
+use native.Mathlib.Nat.{mul-one, zero-mul, mul-zero, mul-right-comm, mul-pos, mul-le-mul-right, eq-of-mul-eq-mul-right}
 use native.Mathlib.Omega.{arith}
 use borrow.Author.Tests.{ltb-false}
 use lib.Dec.{leb, ltb, eqb, lit<}
@@ -81,7 +81,7 @@ read-within n k (fin s m e) h =
     let d = down e in
     let l = mul-le-mul-right k (ltb-false (n * d) (m * up e) h) in
     rw (natAbs-sign s (nearest (m * up e * k) d))
-    (near-le (m * up e * k) d (n * k) (nearest (m * up e * k) d) (down-pos e) (omega (arith, l, mul-right-comm n d k, mul-comm (n * k) d))
+    (near-le (m * up e * k) d (n * k) (nearest (m * up e * k) d) (down-pos e) (omega arith)
     (near (m * up e * k) d (down-pos e)))
 
 -- the comparisons with a whole limit are those of the float's own value

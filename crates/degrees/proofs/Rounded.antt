@@ -57,10 +57,7 @@ unit D n den h d l = unit-at D n den (Ieee.size (n * D / den)) h d l (size-reach
 comes-back : (D n den q k : ℕ) → 2 * (den * 2 ^ k) < D →
     (q * (den * 2 ^ k) ≤ n * D + den * 2 ^ k) × (n * D < q * (den * 2 ^ k) + den * 2 ^ k) →
     nearest (q * 2 ^ k * den) D ≡ n
-comes-back D n den q k u o =
-    let x : q * 2 ^ k * den ≡ q * (den * 2 ^ k) = mul-assoc q (2 ^ k) den ∙ ap (λ (t : ℕ). q * t) (mul-comm (2 ^ k) den) in
-    let c = mul-comm n D in
-    nearest-strict (q * 2 ^ k * den) D n (omega arith) (omega arith) (omega arith)
+comes-back D n den q k u o = nearest-strict (q * 2 ^ k * den) D n (omega arith) (omega arith) (omega arith)
 
 -- a whole limit that n / den does not pass is not passed by the float
 closest-one : (a : ℕ) → closest a 1 ≡ a
@@ -82,7 +79,7 @@ exponent d k den h l =
     (lt-of-not-le (λ (g : d ≤ k).
     let p : 2 ^ d ≤ 2 ^ k = pow-mono g in
     let m = le-mul-of-pos-right (2 ^ k) h in
-    omega (arith, mul-comm den (2 ^ k))))
+    omega arith))
 
 within : (L : ℕ) (x : Float) (s : Bool) (a c : ℕ) → 0 < c → HasValue x s a c → a ≤ L * c → outside L x ≡ false
 unfolding outside

@@ -69,8 +69,7 @@ module _ (t : Session) (s s′ : List ℕ) (first first′ : ℕ) where
   pub same-session : (count : ℕ) → Same count → sessionAt t s first count ≡ sessionAt t s′ first′ count
   unfolding sessionAt answerAt
   same-session zero same = refl
-  same-session (suc count) same =
-      rw (same-session count (λ i h. same i (omega arith)), same count (omega arith))
+  same-session (suc count) same = rw (same-session count (λ i h. same i (omega arith)), same count (omega arith))
 
   pub same-lines : (count : ℕ) → Same count → linesOf t s first count ≡ linesOf t s′ first′ count
   unfolding linesOf answerAt

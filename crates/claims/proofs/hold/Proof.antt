@@ -156,7 +156,7 @@ unfolding degreesOf unitsOf ofInt div round
 written =
     record {
       degrees = degrees-written;
-      places = λ z h. record { exact = units-exact z h; same = units-stand z (omega (arith, h)) .reads };
+      places = λ z h. record { exact = units-exact z h; same = units-stand z (omega arith) .reads };
       zero-degrees = refl;
       zero-units = refl;
     }

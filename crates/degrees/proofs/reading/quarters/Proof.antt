@@ -69,10 +69,10 @@ counted c =
     (omega (arith, low-is (c .args .digits) (c .args .by)))
 
 returns : tie.Need-returns
-returns c = omega (arith, counted (c .before), c .if1 .taken)
+returns c = omega (arith, counted (c .before))
 
 returns-2 : tie.Need-returns-2
-returns-2 c = omega (arith, counted (c .before), c .if1 .left)
+returns-2 c = omega (arith, counted (c .before))
 
 pub quarters-spec : {M : Type 1} → statement M
 quarters-spec =

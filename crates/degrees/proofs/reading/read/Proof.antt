@@ -35,7 +35,7 @@ abbrev number : tie.After-size-of → Signed
 number c = record { negative = leb (2 ^ 63) (toBits binary64 (c .before .args .x)); size = c .size-of .result }
 
 size-low : (c : tie.After-size-of) → c .size-of .result < 2 ^ 31
-size-low c = omega (arith, c .size-of .ensures)
+size-low c = omega arith
 
 number-is : (c : tie.After-size-of) → joinOf (number c) ≡ held (readOf (c .before .args .by) (c .before .args .x))
 number-is c =

@@ -28,7 +28,7 @@ rounded c =
 returns : tie.Need-returns
 returns c =
     let s = c .before in
-    let leading = s .pre .1 .0 (omega (arith, c .if1 .taken)) in
+    let leading = s .pre .1 .0 (omega arith) in
     omega (arith, large (s .args .digits) (s .args .power) (s .args .by) leading (s .pre .1 .1 .0) (c .if1 .taken))
 
 returns-2 : tie.Need-returns-2
@@ -50,10 +50,10 @@ cast-result : tie.Need-cast-result
 cast-result c = search needs
 
 returns-3 : tie.Need-returns-3
-returns-3 c = omega (arith, rounded (c .before), c .if3 .taken)
+returns-3 c = omega (arith, rounded (c .before))
 
 returns-4 : tie.Need-returns-4
-returns-4 c = omega (arith, rounded (c .before), c .if3 .left)
+returns-4 c = omega (arith, rounded (c .before))
 
 pub scaled-spec : {M : Type 1} → statement M
 scaled-spec = tie.close (tie.spec returns returns-2 quarters-requires nearest-requires cast-if3 cast-result returns-3 returns-4)

@@ -40,7 +40,7 @@ returns-2 c =
     c .scaled2 .ensures
     ∙ ap (min most)
     (sym (size-read (s .args .by) (ofBits binary64 b) (leb (2 ^ 63) b) ((2 ^ 52 + b % 2 ^ 52) * 2 ^ k) (2 ^ 1074) (pow-pos 1074)
-    (normal b k (omega (arith, c .before .if1 .left)) (s .pre .0))))
+    (normal b k (omega arith) (s .pre .0))))
 
 pub size-of-spec : {M : Type 1} → statement M
 size-of-spec = tie.close (tie.spec scaled-requires add-scaled sub-scaled scaled-requires-2 returns returns-2)

@@ -82,7 +82,7 @@ put-bytes-requires c κs = search needs
 put-decimal-requires : tie.Need-put-decimal-requires
 put-decimal-requires c κs =
     let p = c .before .before .before in
-    omega (arith, short (start1 p), start1 p .pre)
+    omega (arith, short (start1 p))
 
 slice-aggregate-put-bytes-2 : tie.Need-slice-aggregate-put-bytes-2
 slice-aggregate-put-bytes-2 c = search needs
@@ -90,17 +90,17 @@ slice-aggregate-put-bytes-2 c = search needs
 put-bytes-requires-2 : tie.Need-put-bytes-requires-2
 put-bytes-requires-2 c κs =
     let p = c .before .before .before .before in
-    omega (arith, after2 p, start2 p .pre)
+    omega (arith, after2 p)
 
 put-decimal-requires-2 : tie.Need-put-decimal-requires-2
 put-decimal-requires-2 c κs =
     let p = c .before .before .before in
-    omega (arith, short (start3 p), start3 p .pre)
+    omega (arith, short (start3 p))
 
 put-byte-requires : tie.Need-put-byte-requires
 put-byte-requires c κs =
     let p = c .before .before .before in
-    omega (arith, after4 p, start4 p .pre)
+    omega (arith, after4 p)
 
 same-length : tie.Need-same-length
 same-length c = search needs

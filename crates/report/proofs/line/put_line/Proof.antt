@@ -117,12 +117,12 @@ cast-put-decimal c = search needs
 put-decimal-requires : tie.Need-put-decimal-requires
 put-decimal-requires c κs =
     let p = c .before .before .before in
-    omega (arith, number-le p, start4 p .pre)
+    omega (arith, number-le p)
 
 put-byte-requires-3 : tie.Need-put-byte-requires-3
 put-byte-requires-3 c κs =
     let p = c .before .before .before in
-    omega (arith, refusal2 p, start5 p .pre)
+    omega (arith, refusal2 p)
 
 same-length : tie.Need-same-length
 same-length c = search needs

@@ -58,7 +58,7 @@ returns-3 c =
     let z : 0 ≤ length (now (a .text)) = omega arith in
     rw (end-some (a .session) (now (a .tail)) (fed .result) 16 (test .if2 .left) refl (fed .ensures .0) (fed .ensures .1 .0))
     (placed (le-leb _ _ room) (put-twice z (line .put-line .ensures .0) (closing .ensures .0))
-    (omega (arith, closing .kept .0, line .put-line .ensures .1, line .put-line .kept .0, room)))
+    (omega (arith, line .put-line .ensures .1, room)))
 
 pub last-lines-spec : {M : Type 1} → statement M
 last-lines-spec =
