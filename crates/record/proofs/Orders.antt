@@ -1,15 +1,17 @@
 -- The answer of each call on a record, refusal by refusal in its order.
-use mathlib.Core.Bool.{Bool, true, false, not, cond}
+use mathlib.Core.Bool.{true, false, not}
 use mathlib.Core.List.{List}
-use mathlib.Core.Path.{_≡_, refl, sym, subst}
+use mathlib.Core.Path.{_≡_, sym, subst}
 use Prim.Native.Nat.{ℕ}
 use native.Mathlib.Omega.{arith}
-use borrow.Author.Tests.{eqb-true, eq-eqb, ne-eqb, not-false}
-use lib.Dec.{T, eqb}
+use borrow.Author.Tests.{eq-eqb, ne-eqb}
+use lib.Dec.{T, eqb, eqb→eq}
 use lib.IntN.{ℤ}
 use lib.ListN.{getD}
 use Rattle.projection.specs.Refusal.{Outcome, refused, given, unless}
 use Rattle.projection.specs.Answer.{forwardOf, inverseOf}
+use Rattle.projection.proofs.Every.{conj}
+use Rattle.projection.proofs.Judged.{not-false}
 use Rattle.projection.proofs.Orders.{Applies, Passes}
 use Rattle.record.specs.declared.session.Session.{Session}
 use Rattle.record.specs.Record.{size, mark, position, place, hasMark, kindIn, formIn, centralIn, firstIn, secondIn, movedOf}
@@ -59,22 +61,17 @@ module _ (session : Session) (input : List ℕ) (output : ℕ) where
   unfolding feedOf judgedOf unless
   fed b f = rw (b, f)
 
--- both of two tests are passed
-both : (b c : Bool) → cond b c false ≡ true → (b ≡ true) × (c ≡ true)
-both true c h = (refl, h)
-both false c h = absurd (subst (λ (t : Bool). T (not t)) h tt)
-
 -- two pieces that pass are of a record's length
 pub sizes : (input output : ℕ) → not (bothOfSize input output) ≡ false → (input ≡ size) × (output ≡ size)
 sizes input output h =
-    let t = both (eqb input size) (eqb output size) (not-false (bothOfSize input output) h) in
-    (eqb-true input size (t .0), eqb-true output size (t .1))
+    let t = conj (eqb input size) (eqb output size) (not-false (bothOfSize input output) h) in
+    (eqb→eq input size (t .0), eqb→eq output size (t .1))
 
 -- a record that passes begins with the mark's two bytes
 pub mark-bytes : (bytes : List ℕ) → hasMark bytes ≡ true → (getD bytes 0 0 ≡ getD mark 0 0) × (getD bytes 1 0 ≡ getD mark 1 0)
 mark-bytes bytes h =
-    let t = both (eqb (getD bytes 0 0) (getD mark 0 0)) (eqb (getD bytes 1 0) (getD mark 1 0)) h in
-    (eqb-true (getD bytes 0 0) (getD mark 0 0) (t .0), eqb-true (getD bytes 1 0) (getD mark 1 0) (t .1))
+    let t = conj (eqb (getD bytes 0 0) (getD mark 0 0)) (eqb (getD bytes 1 0) (getD mark 1 0)) (subst T (sym h) tt) in
+    (eqb→eq (getD bytes 0 0) (getD mark 0 0) (t .0), eqb→eq (getD bytes 1 0) (getD mark 1 0) (t .1))
 
 module _ (input output : List ℕ) {answer : Outcome (ℤ × ℤ)} where
   -- what the output piece holds after a refusal, and after a conversion

@@ -1,37 +1,25 @@
 -- `little_endian::put` meets its contract.
-use mathlib.Core.Bool.{false}
-use mathlib.Core.Path.{_≡_, sym, _∙_}
-use Prim.Native.Nat.{_+_, _≤_}
-use borrow.Author.Tests.{leb-true, le-leb, not-true, not-false}
-use denote.Ref.{now}
-use lib.ListN.{length}
+use mathlib.Core.Path.{refl, sym, _∙_}
+use borrow.Author.Tests.{leb-true, not-true, not-false}
 use mir.Facts.{toZ-ofZ}
-use Rattle.little_endian.specs.Number.{hasFour, withNumber, bytesOf}
+use Rattle.little_endian.specs.Number.{withNumber, bytesOf}
 use borrow.Author.Needs.{needs}
 use Rattle.little_endian.proofs.put.Statement.{statement}
 use Rattle.little_endian.proofs.put.Tie as tie
-
--- the test that was passed
-room : (c : tie.Else1) → let s = c .before .before .before .args in s .at + 4 ≤ length (now (s .bytes))
-room c =
-    let s = c .before .before .before .args in
-    leb-true (s .at + 4) (length (now (s .bytes))) (sym (c .before .has-four .ensures) ∙ not-false (c .before .has-four .result) (c .if1 .left))
-
-none : (c : tie.Then1) → let s = c .before .before .before .args in hasFour (now (s .bytes)) (s .at) ≡ false
-none c = sym (c .before .has-four .ensures) ∙ not-true (c .before .has-four .result) (c .if1 .taken)
 
 has-four-requires : tie.Need-has-four-requires
 has-four-requires c κs = search needs
 
 returns : tie.Need-returns
 unfolding withNumber
-returns c = (sym (none c), rw (none c))
+returns c = rw (← c .before .has-four .ensures, not-true (c .before .has-four .result) (c .if1 .taken)) (refl, refl)
 
 unsigned-requires : tie.Need-unsigned-requires
 unsigned-requires c κs = search needs
 
 write-requires : tie.Need-write-requires
-write-requires c κs = room (c .before .before)
+write-requires c κs =
+    let e = c .before .before in leb-true _ _ (sym (e .before .has-four .ensures) ∙ not-false _ (e .if1 .left))
 
 same-length : tie.Need-same-length
 same-length c = search needs
@@ -40,9 +28,9 @@ returns-2 : tie.Need-returns-2
 unfolding withNumber bytesOf
 returns-2 c =
     let d = c .before .before .before in
-    let s = d .before .before .before .before .before .args in
-    let h = le-leb (s .at + 4) (length (now (s .bytes))) (room (d .before .before)) in
-    (sym h, rw h (c .before .before .write .ensures ∙ rw (d .unsigned .ensures, toZ-ofZ (d .before .before .before .before .before .fits .z))))
+    let e = d .before .before in
+    rw (← e .before .has-four .ensures, not-false (e .before .has-four .result) (e .if1 .left))
+    (refl, rw (d .unsigned .ensures, toZ-ofZ (e .before .before .before .fits .z)) at (c .before .before .write .ensures))
 
 pub put-spec : {M : Type 1} → statement M
 put-spec =

@@ -1,6 +1,4 @@
 -- `record::convert::convert_record` meets its contract.
-use mathlib.Core.Bool.{not}
-use mathlib.Core.Path.{_≡_, sym, ap, _∙_}
 use denote.Ref.{now}
 use lib.ListN.{length}
 use Rattle.projection.proofs.Orders.{Passes}
@@ -10,14 +8,9 @@ use borrow.Author.Needs.{needs}
 use Rattle.record.proofs.convert.convert_record.Statement.{statement}
 use Rattle.record.proofs.convert.convert_record.Tie as tie
 
-pieces-test : (c : tie.After-both-of-size) →
-    let s = c .before .before .before .args in
-    not (c .both-of-size .result) ≡ badPieces (now (s .input)) (length (now (s .output))) .applies
-pieces-test c = ap not (c .both-of-size .ensures)
-
 pieces-good : (c : tie.Else1) →
     let s = c .before .before .before .before .args in Passes (badPieces (now (s .input)) (length (now (s .output))))
-pieces-good c = sym (pieces-test (c .before)) ∙ c .if1 .left
+pieces-good c = rw (c .before .both-of-size .ensures) at (c .if1 .left)
 
 both-of-size-requires : tie.Need-both-of-size-requires
 both-of-size-requires c κs = search needs
@@ -25,7 +18,7 @@ both-of-size-requires c κs = search needs
 returns : tie.Need-returns
 returns c =
     let s = c .before .before .before .before .args in
-    let e = converted-8 (now (s .input)) (length (now (s .output))) (sym (pieces-test (c .before)) ∙ c .if1 .taken) in
+    let e = converted-8 (now (s .input)) (length (now (s .output))) (rw (c .before .both-of-size .ensures) at (c .if1 .taken)) in
     (e, kept (now (s .input)) (now (s .output)) 8 e)
 
 convert-requires : tie.Need-convert-requires

@@ -1,6 +1,5 @@
 -- `record::convert::judge` meets its contract: its tests are the conditions of the refusals, in their order.
-use mathlib.Core.Bool.{not}
-use mathlib.Core.Path.{_≡_, sym, ap, _∙_}
+use mathlib.Core.Path.{_≡_, _∙_}
 use mathlib.Core.List.{List}
 use Prim.Native.Nat.{ℕ}
 use denote.Ref.{now}
@@ -21,11 +20,8 @@ use Rattle.record.proofs.convert.judge.Tie as tie
 abbrev input : tie.Else1 → List ℕ
 input c = now (c .before .before .before .args .input)
 
-mark-test : (c : tie.After-has-mark) → not (c .has-mark .result) ≡ badMark (now (c .before .before .args .input)) .applies
-mark-test c = ap not (c .has-mark .ensures)
-
 mark-good : (c : tie.Else1) → Passes (badMark (input c))
-mark-good c = sym (mark-test (c .before)) ∙ c .if1 .left
+mark-good c = rw (c .before .has-mark .ensures) at (c .if1 .left)
 
 -- an answer at three numbers is that at the numbers they are
 at-numbers : (answer : ℤ → ℤ → ℤ → Outcome (ℤ × ℤ)) {c c' f f' s s' : ℤ} → c ≡ c' → f ≡ f' → s ≡ s' → answer c f s ≡ answer c' f' s'
@@ -48,7 +44,7 @@ has-mark-requires : tie.Need-has-mark-requires
 has-mark-requires c κs = search needs
 
 returns : tie.Need-returns
-returns c = judged-9 (now (c .before .before .before .args .input)) (sym (mark-test (c .before)) ∙ c .if1 .taken)
+returns c = judged-9 (now (c .before .before .before .args .input)) (rw (c .before .has-mark .ensures) at (c .if1 .taken))
 
 shared-slice-read-kind : tie.Need-shared-slice-read-kind
 shared-slice-read-kind c = search needs

@@ -1,6 +1,5 @@
 -- `record::session::Session::feed` meets its contract: 8, then 11, then what the record is answered.
-use mathlib.Core.Bool.{not}
-use mathlib.Core.Path.{_≡_, sym, ap, subst, _∙_}
+use mathlib.Core.Path.{sym, ap, subst, _∙_}
 use Prim.Native.Nat.{_+_}
 use borrow.Author.Tests.{leb-false}
 use denote.Ref.{now}
@@ -21,19 +20,11 @@ start1 c = c .before .before .before .before
 abbrev start2 : tie.Else2 → tie.Start
 start2 c = start1 (c .before .before)
 
-pieces-test : (c : tie.After-both-of-size) →
-    let s = c .before .before .before .args in
-    not (c .both-of-size .result) ≡ badPieces (now (s .input)) (length (now (s .output))) .applies
-pieces-test c = ap not (c .both-of-size .ensures)
-
 pieces-good : (c : tie.Else1) → let s = start1 c .args in Passes (badPieces (now (s .input)) (length (now (s .output))))
-pieces-good c = sym (pieces-test (c .before)) ∙ c .if1 .left
-
-full-test : (c : tie.After-is-full) → c .is-full .result ≡ full (start1 (c .before) .args .self) .applies
-full-test c = c .is-full .ensures
+pieces-good c = rw (c .before .both-of-size .ensures) at (c .if1 .left)
 
 not-full : (c : tie.Else2) → Passes (full (start2 c .args .self))
-not-full c = sym (full-test (c .before)) ∙ c .if2 .left
+not-full c = sym (c .before .is-full .ensures) ∙ c .if2 .left
 
 both-of-size-requires : tie.Need-both-of-size-requires
 both-of-size-requires c κs = search needs
@@ -42,7 +33,7 @@ returns : tie.Need-returns
 unfolding sessionAfter
 returns c =
     let s = c .before .before .before .before .args in
-    let e = fed-8 (s .self) (now (s .input)) (length (now (s .output))) (sym (pieces-test (c .before)) ∙ c .if1 .taken) in
+    let e = fed-8 (s .self) (now (s .input)) (length (now (s .output))) (rw (c .before .both-of-size .ensures) at (c .if1 .taken)) in
     (e, (ap (sessionAfter (s .self)) e, kept (now (s .input)) (now (s .output)) 8 e))
 
 is-full-requires : tie.Need-is-full-requires
@@ -53,7 +44,7 @@ unfolding sessionAfter
 returns-2 c =
     let c1 = c .before .before in
     let s = start1 c1 .args in
-    let e = fed-11 (s .self) (now (s .input)) (length (now (s .output))) (pieces-good c1) (sym (full-test (c .before)) ∙ c .if2 .taken) in
+    let e = fed-11 (s .self) (now (s .input)) (length (now (s .output))) (pieces-good c1) (sym (c .before .is-full .ensures) ∙ c .if2 .taken) in
     (e, (ap (sessionAfter (s .self)) e, kept (now (s .input)) (now (s .output)) 11 e))
 
 convert-requires : tie.Need-convert-requires
