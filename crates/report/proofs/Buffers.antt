@@ -58,14 +58,15 @@ put-number fits p = rw (toZ-ofZ fits) at p
 
 -- text put at a place, with a bound on its length
 pub record Bounded (l : List ℕ) (at room : ℕ) (text : List ℕ) (next : ℕ) (l′ : List ℕ) : Type 0 where
+  pub start : at ≤ length l
   pub put : Put l at text next l′
   pub bound : next ≤ at + room
   pub size : length l′ ≡ length l
 
 -- more text behind it
-pub behind : {l l′ l″ text more : List ℕ} {at next end room : ℕ} → at ≤ length l → Bounded l at room text next l′ → (n : ℕ) →
+pub behind : {l l′ l″ text more : List ℕ} {at next end room : ℕ} → Bounded l at room text next l′ → (n : ℕ) →
     Put l′ next more end l″ → end ≤ next + n → length l″ ≡ length l′ → Bounded l at (room + n) (text ++ more) end l″
-behind h w n p b s = record { put = put-twice h (w .put) p; bound = omega (arith, w .bound); size = s ∙ w .size }
+behind w n p b s = record { start = w .start; put = put-twice (w .start) (w .put) p; bound = omega arith; size = s ∙ w .size }
 
 -- nothing put
 pub put-none : (l : List ℕ) → Put l 0 [] 0 l

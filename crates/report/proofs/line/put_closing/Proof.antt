@@ -39,13 +39,10 @@ short c =
     let b : c .args .session .refused < 10 ^ 20 = search needs in
     record { moved = decimal-le 20 _ (omega arith) a; refused = decimal-le 20 _ (omega arith) b }
 
-at-le : (c : tie.Start) → c .args .at ≤ length (now (c .args .text))
-at-le c = omega arith
-
 -- what is put after each call
 after1 : (c : tie.After-put-bytes) →
     Bounded (now (start1 c .args .text)) (start1 c .args .at) 6 movedWord (c .put-bytes .result) (c .put-bytes .last .0)
-after1 c = record { put = c .put-bytes .ensures; bound = omega arith; size = c .put-bytes .kept .0 }
+after1 c = record { start = omega arith; put = c .put-bytes .ensures; bound = omega arith; size = c .put-bytes .kept .0 }
 
 after2 : (c : tie.After-put-decimal) →
     Bounded (now (start2 c .args .text)) (start2 c .args .at) (6 + 20) (movedWord ++ decimalOf (start2 c .args .session .moved))
@@ -54,14 +51,14 @@ after2 c =
     let s = start2 c in
     let b = short s in
     let p = c .put-decimal in
-    behind (at-le s) (after1 (c .before .before .before .before)) 20 (p .ensures) (omega (arith, p .ensures .behind)) (p .kept .0)
+    behind (after1 (c .before .before .before .before)) 20 (p .ensures) (omega (arith, p .ensures .behind)) (p .kept .0)
 
 after3 : (c : tie.After-put-bytes2) →
     Bounded (now (start3 c .args .text)) (start3 c .args .at) (6 + 20 + 9)
     ((movedWord ++ decimalOf (start3 c .args .session .moved)) ++ (space ++ refusedWord)) (c .put-bytes2 .result) (c .put-bytes2 .last .0)
 after3 c =
     let p = c .put-bytes2 in
-    behind (at-le (start3 c)) (after2 (c .before .before .before .before .before)) 9 (p .ensures) (omega (arith, p .ensures .behind)) (p .kept .0)
+    behind (after2 (c .before .before .before .before .before)) 9 (p .ensures) (omega (arith, p .ensures .behind)) (p .kept .0)
 
 after4 : (c : tie.After-put-decimal2) →
     Bounded (now (start4 c .args .text)) (start4 c .args .at) (6 + 20 + 9 + 20)
@@ -71,7 +68,7 @@ after4 c =
     let s = start4 c in
     let b = short s in
     let p = c .put-decimal2 in
-    behind (at-le s) (after3 (c .before .before .before .before)) 20 (p .ensures) (omega (arith, p .ensures .behind)) (p .kept .0)
+    behind (after3 (c .before .before .before .before)) 20 (p .ensures) (omega (arith, p .ensures .behind)) (p .kept .0)
 
 slice-aggregate-put-bytes : tie.Need-slice-aggregate-put-bytes
 slice-aggregate-put-bytes c = search needs
@@ -110,7 +107,7 @@ unfolding closingOf
 returns c =
     let p = c .before .before in
     let q = p .before .before .before .before in
-    let w = behind (at-le (start4 q)) (after4 q) 1 (p .put-byte .ensures) (omega (arith, p .put-byte .ensures .behind)) (p .put-byte .kept .0) in
+    let w = behind (after4 q) 1 (p .put-byte .ensures) (omega (arith, p .put-byte .ensures .behind)) (p .put-byte .kept .0) in
     (simp append-assoc at (w .put), w .bound)
 
 pub put-closing-spec : {M : Type 1} → statement M

@@ -15,9 +15,6 @@ use Rattle.report.proofs.Buffers.{put-number, Bounded, behind}
 use Rattle.report.proofs.line.put_line.Statement.{statement}
 use Rattle.report.proofs.line.put_line.Tie as tie
 
-at-le : (c : tie.Start) → c .args .at ≤ length (now (c .args .text))
-at-le c = omega arith
-
 -- a pair: the way back to what was handed in and to the two numbers, from each call
 abbrev start1 : tie.After-put-number → tie.Start
 start1 c = c .before .before .before .before .before .before
@@ -40,14 +37,14 @@ pair1 : (c : tie.After-put-number) →
 pair1 c =
     let fits : SFits w32 (first c) = search needs in
     let p = c .put-number in
-    record { put = put-number fits (p .ensures .0); bound = p .ensures .1; size = p .kept .0 }
+    record { start = omega arith; put = put-number fits (p .ensures .0); bound = p .ensures .1; size = p .kept .0 }
 
 pair2 : (c : tie.After-put-byte) →
     Bounded (now (start2 c .args .text)) (start2 c .args .at) (11 + 1) (numberText (first (c .before .before .before .before)) ++ space)
     (c .put-byte .result) (c .put-byte .last .0)
 pair2 c =
     let p = c .put-byte in
-    behind (at-le (start2 c)) (pair1 (c .before .before .before .before)) 1 (p .ensures) (omega (arith, p .ensures .behind)) (p .kept .0)
+    behind (pair1 (c .before .before .before .before)) 1 (p .ensures) (omega (arith, p .ensures .behind)) (p .kept .0)
 
 pair3 : (c : tie.After-put-number2) →
     let n = c .before .before .before .before .before .before .before .before in
@@ -56,7 +53,7 @@ pair3 : (c : tie.After-put-number2) →
 pair3 c =
     let fits : SFits w32 (second (c .before .before .before .before .before .before .before .before)) = search needs in
     let p = c .put-number2 in
-    behind (at-le (start3 c)) (pair2 (c .before .before .before .before)) 11 (put-number fits (p .ensures .0)) (p .ensures .1) (p .kept .0)
+    behind (pair2 (c .before .before .before .before)) 11 (put-number fits (p .ensures .0)) (p .ensures .1) (p .kept .0)
 
 -- a refusal likewise
 abbrev start4 : tie.After-put-bytes → tie.Start
@@ -76,7 +73,7 @@ number-le c =
 
 refusal1 : (c : tie.After-put-bytes) →
     Bounded (now (start4 c .args .text)) (start4 c .args .at) 8 refusedWord (c .put-bytes .result) (c .put-bytes .last .0)
-refusal1 c = record { put = c .put-bytes .ensures; bound = omega arith; size = c .put-bytes .kept .0 }
+refusal1 c = record { start = omega arith; put = c .put-bytes .ensures; bound = omega arith; size = c .put-bytes .kept .0 }
 
 refusal2 : (c : tie.After-put-decimal) →
     Bounded (now (start5 c .args .text)) (start5 c .args .at) (8 + 3) (refusedWord ++ decimalOf (number (c .before .before .before .before)))
@@ -85,7 +82,7 @@ refusal2 c =
     let q = c .before .before .before .before in
     let b = number-le q in
     let p = c .put-decimal in
-    behind (at-le (start5 c)) (refusal1 q) 3 (p .ensures) (omega (arith, p .ensures .behind)) (p .kept .0)
+    behind (refusal1 q) 3 (p .ensures) (omega (arith, p .ensures .behind)) (p .kept .0)
 
 enum-known-answer : tie.Need-enum-known-answer
 enum-known-answer c = search needs
@@ -133,7 +130,7 @@ returns c =
     let p = c .before .before in
     let q = p .before .before .before .before in
     let n = q .before .before .before .before .before .before .before .before in
-    let w = behind (at-le (start3 q)) (pair3 q) 1 (p .put-byte2 .ensures) (omega (arith, p .put-byte2 .ensures .behind)) (p .put-byte2 .kept .0) in
+    let w = behind (pair3 q) 1 (p .put-byte2 .ensures) (omega (arith, p .put-byte2 .ensures .behind)) (p .put-byte2 .kept .0) in
     (rw (n .before .before .before .answer .given .1) (simp append-assoc at (w .put)), w .bound)
 
 same-length-2 : tie.Need-same-length-2
@@ -145,7 +142,7 @@ returns-2 c =
     let p = c .before .before in
     let q = p .before .before .before .before in
     let n = q .before .before .before .before in
-    let w = behind (at-le (start5 q)) (refusal2 q) 1 (p .put-byte3 .ensures) (omega (arith, p .put-byte3 .ensures .behind)) (p .put-byte3 .kept .0) in
+    let w = behind (refusal2 q) 1 (p .put-byte3 .ensures) (omega (arith, p .put-byte3 .ensures .behind)) (p .put-byte3 .kept .0) in
     (rw (n .before .before .before .before .answer2 .given .1) (simp append-assoc at (w .put)), omega arith)
 
 pub put-line-spec : {M : Type 1} → statement M
