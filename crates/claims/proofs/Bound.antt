@@ -1,7 +1,7 @@
 -- Demand 2's bound: W is less than 1 away from the expression with the exact root or quotient.
-use mathlib.Core.Path.{_≡_, refl, sym, ap, _∙_}
+use mathlib.Core.Path.{_≡_, refl, ap}
 use Prim.Native.Nat.{ℕ, _+_, _*_, _≤_, _<_}
-use native.Mathlib.Nat.{zero-mul, mul-add, mul-comm, mul-le-mul-left}
+use native.Mathlib.Nat.{zero-mul, mul-comm, mul-le-mul-left}
 use native.Mathlib.Omega.{arith}
 use lib.IntN.{ℤ, pos, natAbs, _-ℤ_, _*ℤ_}
 use Rattle.whole.specs.Root.{IsRoot, root}
@@ -19,10 +19,6 @@ use Rattle.claims.specs.ExactRoot.{NearRoot}
 use Rattle.claims.specs.Demand2.{slope, rest, WithinOne}
 use Rattle.claims.proofs.Roots.{AtMost, AtLeast, near-root}
 
--- x times a M + b q, each product with x inside
-regroup : (x a b q : ℕ) → x * (a * M + b * q) ≡ a * (x * M) + b * x * q
-regroup x a b q = omega arith
-
 -- by the rounding alone, 2 M W - KX a M is at most M away from KX b q
 rounded : (r : Row) (p : ℕ) → Usable r p →
     AtMost (rest r p) (slope r) (rootAt r p) M × AtLeast (rest r p) (slope r) (rootAt r p) M
@@ -32,8 +28,7 @@ rounded r p u =
     let q = rootAt r p in
     let n = width-near r p u in
     let e = combined-is (r .a) M (r .b) q (numerator-whole r p u) in
-    let c = sym (mul-add x (numerator r q) (minus (r .a) * M + minus (r .b) * q)) ∙ ap (λ (k : ℕ). x * k) e in
-    let d2 = regroup x (minus (r .a)) (minus (r .b)) q in
+    let c = ap (λ (k : ℕ). x * k) e in
     let s = less (pos (2 * M * halfWidth r p)) (r .a *ℤ pos (x * M)) in
     let a1 = plus-mul (r .a) (x * M) in
     let a2 = minus-mul (r .a) (x * M) in
@@ -41,14 +36,6 @@ rounded r p u =
 
 slope-small : (r : Row) (p : ℕ) → Usable r p → natAbs (slope r) < M
 slope-small r p u = rw (natAbs-mul (r .b) (r .kx), mul-comm (natAbs (r .b)) (r .kx)) (u .columns .kx-fine)
-
--- y times a number from n q to n q + n, for a part of y
-bracket : (y n q t : ℕ) → n * q ≤ t → t ≤ n * q + n → (n * (y * q) ≤ y * t) × (y * t ≤ n * (y * q) + y * n)
-bracket y n q t h k =
-    let l = mul-le-mul-left y h in
-    let u = mul-le-mul-left y k in
-    let d = mul-add y (n * q) n in
-    (omega arith, omega arith)
 
 -- g is at most M away from y q, and q is the floor of t / N: so N g is less than 2 M N away from y t
 by-quotient : (y g : ℤ) (q t : ℕ) → N * q ≤ t → t ≤ N * q + N → natAbs y < M → AtMost g y q M → AtLeast g y q M →
@@ -60,8 +47,10 @@ by-quotient y g q t h k b l m =
     let g2 = minus-mul g N in
     let y1 = plus-mul y t in
     let y2 = minus-mul y t in
-    let c1 = bracket (plus y) N q t h k in
-    let c2 = bracket (minus y) N q t h k in
+    let p1 = mul-le-mul-left (plus y) h in
+    let p2 = mul-le-mul-left (plus y) k in
+    let m1 = mul-le-mul-left (minus y) h in
+    let m2 = mul-le-mul-left (minus y) k in
     let i = parts y in
     omega arith
 

@@ -118,9 +118,9 @@ last-digits (suc m) = last-digits-in (suc m) (suc m)
 pub text-above : (z : ℤ) (s : Signed) → s ≡ splitOf z → s .negative ≡ false → numberText z ≡ decimalOf (s .size)
 unfolding numberText
 text-above (pos n) s e h = rw e
-text-above (negsuc m) s e h = let z : _≡_ {A = ℕ} 0 1 = cc in absurd (omega arith)
+text-above (negsuc m) s e h = cc
 
 pub text-below : (z : ℤ) (s : Signed) → s ≡ splitOf z → s .negative ≡ true → numberText z ≡ hyphen ∷ decimalOf (s .size)
 unfolding numberText
-text-below (pos n) s e h = let z : _≡_ {A = ℕ} 0 1 = cc in absurd (omega arith)
+text-below (pos n) s e h = cc
 text-below (negsuc m) s e h = rw e

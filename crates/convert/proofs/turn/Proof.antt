@@ -2,7 +2,6 @@
 use Prim.Native.Nat.{_≤_}
 use native.Mathlib.Omega.{arith}
 use borrow.Author.Needs.{needs}
-use lib.ListN.{length-take}
 use Rattle.report.proofs.Streams.{few-held}
 use Rattle.convert.specs.Room.{read}
 use Rattle.convert.proofs.turn.Statement.{statement}
@@ -78,7 +77,7 @@ returns-3 c =
     let counted = took .before .before .before in
     let part = counted .before .before in
     let bytes = part-count-end part in
-    let bound : counted .count .result ≤ read = omega (arith, simp length-take at (counted .count .ensures .0 .0)) in
+    let bound : counted .count .result ≤ read = omega arith in
     few-held (took .take-in .ensures) (omega arith) (omega (arith, start part .pre))
 
 pub turn-spec : {M : Type 1} → statement M
