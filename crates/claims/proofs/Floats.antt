@@ -8,7 +8,7 @@ use borrow.Author.Tests.{not-false, ltb-false}
 use lib.IntN.{ℤ, negℤ, natAbs}
 use lib.Ieee.{Float}
 use lib.Ieee.Scale.{finite}
-use Rattle.projection.specs.Angle.{N, H}
+use Rattle.projection.specs.Angle.{H}
 use Rattle.projection.specs.Table.{rowOf}
 use Rattle.projection.specs.Parallel.{height}
 use Rattle.projection.specs.Forward.{placeOf}
@@ -74,12 +74,6 @@ written-place kind c l f x y e =
 written-angle : (n : ℕ) (z : ℤ) → natAbs z ≤ n * perDegree → n ≤ 180 → Within n (degreesOf z) × (centiseconds (degreesOf z) ≡ z)
 written-angle n z h l = let s = degrees-stand z (omega arith) in ((s .is-finite, s .stays n h), s .reads)
 
-written-meridian : (z : ℤ) → natAbs z ≤ N → Within 180 (degreesOf z) × (centiseconds (degreesOf z) ≡ z)
-written-meridian z h = written-angle 180 z h (omega arith)
-
-written-latitude : (z : ℤ) → natAbs z ≤ H → Within 90 (degreesOf z) × (centiseconds (degreesOf z) ≡ z)
-written-latitude z h = written-angle 90 z h (omega arith)
-
 sent : (kind : ℕ) (c l f x y : Float) → forwardDegrees kind c l f ≡ given (x, y) → Sent floats accepted kind c l f x y
 unfolding forwardDegrees
 sent kind c l f x y e =
@@ -123,8 +117,8 @@ sent-back kind c x y l f e =
     } in
     let a = admits kind (centiseconds c) (units x) (units y) q in
     let s = position-small kind (centiseconds c) (units x) (units y) (p .0) (p .1) a in
-    let wl = written-meridian (p .0) (s .0) in
-    let wf = written-latitude (p .1) (s .1) in
+    let wl = written-angle 180 (p .0) (s .0) (omega arith) in
+    let wf = written-angle 90 (p .1) (s .1) (omega arith) in
     subst (λ (v : Float × Float). SentBack floats accepted kind c x y (v .0) (v .1)) (sym (g .1))
     (record {
       central = (not-false (finite c) (n .0), t .0);
@@ -161,8 +155,8 @@ takes-back kind c x y p hc hx hy e =
       answer =
           sym (inverse-numbers kind c x y (kind-false (isKind kind) k) (record { first = hc .0; second = hx; third = hy }) (hc .1))
           ∙ ap (onGiven writtenPosition) e;
-      first-is = written-meridian (p .0) (s .0) .1;
-      second-is = written-latitude (p .1) (s .1) .1;
+      first-is = written-angle 180 (p .0) (s .0) (omega arith) .1;
+      second-is = written-angle 90 (p .1) (s .1) (omega arith) .1;
     }
 
 pub floats-by-numbers : ByNumbers floats
@@ -176,5 +170,5 @@ floats-by-numbers =
       sent-back = sent-back;
       takes = takes;
       takes-back = takes-back;
-      meridian = λ z h. let w = written-meridian z h in (degreesOf z, w .0, w .1);
+      meridian = λ z h. let w = written-angle 180 z h (omega arith) in (degreesOf z, w .0, w .1);
     }

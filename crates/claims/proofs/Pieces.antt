@@ -1,9 +1,8 @@
 -- Both calls on a record answer 8 by the pieces, 11 by the session, and else what the record's own bytes ask for.
-use mathlib.Core.Bool.{Bool, true, false, not}
+use mathlib.Core.Bool.{Bool, true, false, not, false≢true}
 use mathlib.Core.List.{List}
-use mathlib.Core.Path.{_≡_, refl, sym, ap, subst, _∙_}
+use mathlib.Core.Path.{_≡_, refl, sym, ap, _∙_}
 use Prim.Native.Nat.{ℕ}
-use lib.Dec.{T}
 use lib.IntN.{ℤ}
 use lib.ListN.{length}
 use Rattle.projection.specs.Refusal.{Outcome, refused, given}
@@ -25,7 +24,7 @@ pub converting-answers : Answers converting
 converting-answers =
     record {
       short = λ t s output b. sym (converted-8 s output (ap not b));
-      filled = λ t s output b f. absurd (subst (λ (x : Bool). T (not x)) f tt);
+      filled = λ t s output b f. absurd (false≢true f);
       judged = λ t s output b f. sym (converted s output (ap not b));
     }
 

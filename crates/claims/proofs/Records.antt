@@ -1,12 +1,12 @@
 -- Demand 3 for records, from demand 3 for numbers.
-use mathlib.Core.Bool.{Bool, true, false, not}
+use mathlib.Core.Bool.{Bool, true, false, not, true≢false}
 use mathlib.Core.List.{List, [], _∷_, _++_}
 use mathlib.Core.Logic.{inl, inr, _≢_}
-use mathlib.Core.Path.{_≡_, refl, sym, ap, ap₂, subst, _∙_}
+use mathlib.Core.Path.{_≡_, refl, sym, ap, ap₂, _∙_}
 use Prim.Native.Nat.{ℕ, _*_, _≤_, _<_}
 use native.Mathlib.Omega.{arith}
 use borrow.Author.Tests.{eqb-true, eqb-false, eq-eqb}
-use lib.Dec.{T, eqb}
+use lib.Dec.{eqb}
 use lib.IntN.{ℤ, natAbs}
 use lib.ListN.{length, getD, take}
 use lib.Seq.{getD-take}
@@ -122,14 +122,14 @@ module _ (h : Handing) (a : Answers h) where
             by-8 = (λ g. absurd (let z = number 11 8 r g in omega arith), λ g. absurd (g yes));
             by-11 = (λ _. (yes, ef), λ _. r);
             nothing-else = λ n g. inr (number n 11 g r);
-            accepted = λ _ s. absurd (subst T (sym ef ∙ s) tt);
+            accepted = λ _ s. absurd (true≢false (sym ef ∙ s));
           }
       go true false eb ef =
           let r = a .judged t bytes output (both true eb) ef ∙ e in
           let yes = eqb-true output size eb in
           record {
             by-8 = (λ g. absurd (not-both 8 q (sym g ∙ r)), λ g. absurd (g yes));
-            by-11 = (λ g. absurd (not-both 11 q (sym g ∙ r)), λ g. absurd (subst T (sym (g .1) ∙ ef) tt));
+            by-11 = (λ g. absurd (not-both 11 q (sym g ∙ r)), λ g. absurd (true≢false (sym (g .1) ∙ ef)));
             nothing-else = λ n g. absurd (not-both n q (sym g ∙ r));
             accepted = λ _ _. (q, r, k);
           }

@@ -1,5 +1,5 @@
 -- The answer of each call on floats, refusal by refusal in its order.
-use mathlib.Core.Bool.{and-eq-true-iff, Bool, true, false, not, cond, _&&_}
+use mathlib.Core.Bool.{Bool, true, false, not, cond, _&&_, and-eq-true-iff}
 use mathlib.Core.Path.{_≡_, refl}
 use Prim.Native.Nat.{ℕ}
 use lib.Ieee.{Float}

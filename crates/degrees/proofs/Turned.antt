@@ -1,5 +1,5 @@
 -- A float with its sign turned is judged as it was, and read as the number turned.
-use mathlib.Core.Bool.{and-eq-true-iff, Bool, Bool·beq, true, false, _||_}
+use mathlib.Core.Bool.{Bool, Bool·beq, true, false, _||_, and-eq-true-iff}
 use mathlib.Core.Path.{_≡_, refl, sym, _∙_}
 use Prim.Native.Nat.{ℕ, _*_}
 use native.Mathlib.Nat.{zero-mul, mul-one}

@@ -1,6 +1,6 @@
 -- What the tests of a call say of what it was handed.
-use mathlib.Core.Path.{_≡_, sym, ap, subst, _∙_}
-use mathlib.Core.Bool.{Bool, true, false, not}
+use mathlib.Core.Path.{_≡_, sym, ap, _∙_}
+use mathlib.Core.Bool.{Bool, true, false, not, true≢false}
 use Prim.Native.Nat.{ℕ, _≤_}
 use borrow.Author.Tests.{ltb-false}
 use lib.Dec.{T}
@@ -16,7 +16,7 @@ use Rattle.projection.specs.Angle.{outside}
 -- a failed test of a negation
 pub not-false : (b : Bool) → not b ≡ false → T b
 not-false true e = tt
-not-false false e = subst T e tt
+not-false false e = true≢false e
 
 -- a number taken apart is that number
 pub number-is : {z : ℤ} (s : Signed) → SFits w32 z → s ≡ splitOf (toZ w32 (ofZ w32 z)) → joinOf s ≡ z
