@@ -4,7 +4,6 @@ use mathlib.Core.List.{List}
 use mathlib.Core.Path.{_≡_, refl}
 use Prim.Native.Nat.{ℕ}
 use lib.Dec.{T, eqb}
-use lib.IntN.{ℤ}
 use Rattle.projection.specs.Refusal.{refused}
 use Rattle.projection.specs.Answer.{forwardOrder, inverseOrder}
 use Rattle.projection.proofs.Orders.{OfNumbers, unless-number}

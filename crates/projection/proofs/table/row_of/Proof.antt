@@ -1,5 +1,4 @@
 -- `projection::table::row_of` meets its contract: the constant table is the list `rows`.
-use mathlib.Core.Path.{refl}
 use native.Mathlib.Omega.{arith}
 use borrow.Author.Needs.{needs}
 use mir.Syntax.{w32}
