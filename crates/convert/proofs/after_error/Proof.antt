@@ -24,14 +24,8 @@ no-end (negsuc n) h = refl
 returns : tie.Need-returns
 returns c = again (c .before .args .error) (c .before .fits .error) (c .if1 .taken)
 
-slice-aggregate-fail : tie.Need-slice-aggregate-fail
-slice-aggregate-fail c = search needs
-
-fail-requires : tie.Need-fail-requires
-fail-requires c κs = search needs
-
 returns-2 : tie.Need-returns-2
 returns-2 c = no-end (c .before .before .before .args .error) (c .before .before .if1 .left)
 
 pub after-error-spec : {M : Type 1} → statement M
-after-error-spec = tie.close (tie.spec returns slice-aggregate-fail fail-requires returns-2)
+after-error-spec = tie.close (tie.spec returns (λ c. search needs) (λ c κs. search needs) returns-2)

@@ -8,14 +8,8 @@ use Rattle.convert.proofs.after_write.Tie as tie
 returns : tie.Need-returns
 returns c = sym (ap afterWrite (c .if1 .taken))
 
-slice-aggregate-fail : tie.Need-slice-aggregate-fail
-slice-aggregate-fail c = search needs
-
-fail-requires : tie.Need-fail-requires
-fail-requires c κs = search needs
-
 returns-2 : tie.Need-returns-2
 returns-2 c = sym (ap afterWrite (c .before .before .if1 .left))
 
 pub after-write-spec : {M : Type 1} → statement M
-after-write-spec = tie.close (tie.spec returns slice-aggregate-fail fail-requires returns-2)
+after-write-spec = tie.close (tie.spec returns (λ c. search needs) (λ c κs. search needs) returns-2)

@@ -20,38 +20,23 @@ not-ended : (written : Bool) → NotEnded (afterWrite written)
 not-ended true = tt
 not-ended false = tt
 
-enum-known-lines : tie.Need-enum-known-lines
-enum-known-lines c = search needs
-
 slice-aggregate-write-all : tie.Need-slice-aggregate-write-all
 slice-aggregate-write-all c =
     let at = c .before .before in
     let start = at .before .before .before in
     lent (start .args .lines) (at .lines .given .0 .0) (now (start .args .text)) (at .lines .given .1) (start .pre)
 
-write-all-requires : tie.Need-write-all-requires
-write-all-requires c κs = search needs
-
-after-write-requires : tie.Need-after-write-requires
-after-write-requires c κs = search needs
-
-enum-told : tie.Need-enum-told
-enum-told c = search needs
-
 returns : tie.Need-returns
 returns c = subst NotEnded (sym (c .after-write .ensures)) (not-ended (c .before .write-all .result))
-
-returns-2 : tie.Need-returns-2
-returns-2 c = search needs
 
 pub print-spec : {M : Type 1} → statement M
 print-spec =
     tie.close
     (tie.spec
-    enum-known-lines
+    (λ c. search needs)
     slice-aggregate-write-all
-    write-all-requires
-    after-write-requires
-    enum-told
+    (λ c κs. search needs)
+    (λ c κs. search needs)
+    (λ c. search needs)
     returns
-    returns-2)
+    (λ c. search needs))

@@ -8,9 +8,6 @@ use borrow.Author.Needs.{needs}
 use Rattle.little_endian.proofs.get.Statement.{statement}
 use Rattle.little_endian.proofs.get.Tie as tie
 
-has-four-requires : tie.Need-has-four-requires
-has-four-requires c κs = search needs
-
 returns : tie.Need-returns
 unfolding numberAt
 returns c = rw (← c .before .has-four .ensures, not-true (c .before .has-four .result) (c .if1 .taken))
@@ -25,4 +22,4 @@ returns-2 c =
     rw (← h .ensures, not-false (h .result) (c .before .if1 .left)) (toZ-ofZ {w = w32} (record { sfits = c .read .ok }) ∙ c .read .ensures)
 
 pub get-spec : {M : Type 1} → statement M
-get-spec = tie.close (tie.spec has-four-requires returns read-requires returns-2)
+get-spec = tie.close (tie.spec (λ c κs. search needs) returns read-requires returns-2)

@@ -7,22 +7,13 @@ use borrow.Author.Needs.{needs}
 use Rattle.little_endian.proofs.put.Statement.{statement}
 use Rattle.little_endian.proofs.put.Tie as tie
 
-has-four-requires : tie.Need-has-four-requires
-has-four-requires c κs = search needs
-
 returns : tie.Need-returns
 unfolding withNumber
 returns c = rw (← c .before .has-four .ensures, not-true (c .before .has-four .result) (c .if1 .taken)) (refl, refl)
 
-unsigned-requires : tie.Need-unsigned-requires
-unsigned-requires c κs = search needs
-
 write-requires : tie.Need-write-requires
 write-requires c κs =
     let e = c .before .before in leb-true _ _ (sym (e .before .has-four .ensures) ∙ not-false _ (e .if1 .left))
-
-same-length : tie.Need-same-length
-same-length c = search needs
 
 returns-2 : tie.Need-returns-2
 unfolding withNumber bytesOf
@@ -35,4 +26,4 @@ returns-2 c =
 pub put-spec : {M : Type 1} → statement M
 put-spec =
     tie.close
-    (tie.spec has-four-requires returns unsigned-requires write-requires same-length returns-2)
+    (tie.spec (λ c κs. search needs) returns (λ c κs. search needs) write-requires (λ c. search needs) returns-2)

@@ -9,20 +9,8 @@ use Rattle.little_endian.proofs.Complement.{below-fits, below-is}
 use Rattle.little_endian.proofs.signed.Statement.{statement}
 use Rattle.little_endian.proofs.signed.Tie as tie
 
-cast-result : tie.Need-cast-result
-cast-result c = search needs
-
-sub-result : tie.Need-sub-result
-sub-result c = search needs
-
-cast-result-2 : tie.Need-cast-result-2
-cast-result-2 c = search needs
-
 sub-result-2 : tie.Need-sub-result-2
 sub-result-2 c = below-fits (4294967295 - c .before .args .n) (omega arith)
-
-returns : tie.Need-returns
-returns c = search needs
 
 returns-2 : tie.Need-returns-2
 returns-2 c =
@@ -30,4 +18,4 @@ returns-2 c =
     below-is (4294967295 - c .before .args .n) (omega arith) ∙ rw (le-ltb (c .before .args .n) 2147483648 h) (ap negsuc (omega arith))
 
 pub signed-spec : {M : Type 1} → statement M
-signed-spec = tie.close (tie.spec cast-result sub-result cast-result-2 sub-result-2 returns returns-2)
+signed-spec = tie.close (tie.spec (λ c. search needs) (λ c. search needs) (λ c. search needs) sub-result-2 (λ c. search needs) returns-2)

@@ -22,14 +22,8 @@ below c =
     let e = split-is b in
     rw e (bits-below z (b .before .fits .z) (sym (ap (λ (s : Signed). s .negative) e) ∙ c .if1 .taken))
 
-split-requires : tie.Need-split-requires
-split-requires c κs = search needs
-
 sub-result : tie.Need-sub-result
 sub-result c = below (c .before) .0
-
-sub-result-2 : tie.Need-sub-result-2
-sub-result-2 c = search needs
 
 returns : tie.Need-returns
 returns c = below (c .before) .1
@@ -41,4 +35,4 @@ returns-2 c =
     rw e (bits-above (b .before .args .z) (sym (ap (λ (s : Signed). s .negative) e) ∙ c .if1 .left))
 
 pub unsigned-spec : {M : Type 1} → statement M
-unsigned-spec = tie.close (tie.spec split-requires sub-result sub-result-2 returns returns-2)
+unsigned-spec = tie.close (tie.spec (λ c κs. search needs) sub-result (λ c. search needs) returns returns-2)

@@ -20,41 +20,14 @@ stores l at n h =
     let three : at + 3 ≡ suc (suc (suc at)) = omega arith in
     rw (one, two, three) (sets-eq (bytesOfWord n) l at h) ∙ append-assoc (take at l) (bytesOfWord n) (drop (at + 4) l)
 
-cast-bytes : tie.Need-cast-bytes
-cast-bytes c = search needs
-
-slice-write-bytes : tie.Need-slice-write-bytes
-slice-write-bytes c = search needs
-
-cast-bytes-2 : tie.Need-cast-bytes-2
-cast-bytes-2 c = search needs
-
-add-bytes : tie.Need-add-bytes
-add-bytes c = search needs
-
 slice-write-bytes-2 : tie.Need-slice-write-bytes-2
 slice-write-bytes-2 c = simp length-set (omega arith)
-
-cast-bytes-3 : tie.Need-cast-bytes-3
-cast-bytes-3 c = search needs
-
-add-bytes-2 : tie.Need-add-bytes-2
-add-bytes-2 c = search needs
 
 slice-write-bytes-3 : tie.Need-slice-write-bytes-3
 slice-write-bytes-3 c = simp length-set (omega arith)
 
-cast-bytes-4 : tie.Need-cast-bytes-4
-cast-bytes-4 c = search needs
-
-add-bytes-3 : tie.Need-add-bytes-3
-add-bytes-3 c = search needs
-
 slice-write-bytes-4 : tie.Need-slice-write-bytes-4
 slice-write-bytes-4 c = simp length-set (omega arith)
-
-same-length : tie.Need-same-length
-same-length c = search needs
 
 returns : tie.Need-returns
 returns c = stores (now (c .args .bytes)) (c .args .at) (c .args .n) (c .pre)
@@ -63,16 +36,16 @@ pub write-spec : {M : Type 1} → statement M
 write-spec =
     tie.close
     (tie.spec
-    cast-bytes
-    slice-write-bytes
-    cast-bytes-2
-    add-bytes
+    (λ c. search needs)
+    (λ c. search needs)
+    (λ c. search needs)
+    (λ c. search needs)
     slice-write-bytes-2
-    cast-bytes-3
-    add-bytes-2
+    (λ c. search needs)
+    (λ c. search needs)
     slice-write-bytes-3
-    cast-bytes-4
-    add-bytes-3
+    (λ c. search needs)
+    (λ c. search needs)
     slice-write-bytes-4
-    same-length
+    (λ c. search needs)
     returns)

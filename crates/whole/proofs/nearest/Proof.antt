@@ -31,12 +31,6 @@ returns : tie.Need-returns
 unfolding nearest
 returns c = cc
 
-div-q : tie.Need-div-q
-div-q c = search needs
-
-rem-r : tie.Need-rem-r
-rem-r c = search needs
-
 sub-if2 : tie.Need-sub-if2
 sub-if2 c = omega (arith, mod-lt (c .before .args .n) (divisor c))
 
@@ -57,4 +51,4 @@ returns-3 c =
     rw (nearest-is (s .args .n) (s .args .d) (divisor (c .before)), carry-none (s .args .n % s .args .d) (s .args .d) (omega arith)) (omega arith)
 
 pub nearest-spec : {M : Type 1} → statement M
-nearest-spec = tie.close (tie.spec returns div-q rem-r sub-if2 add-result returns-2 returns-3)
+nearest-spec = tie.close (tie.spec returns (λ c. search needs) (λ c. search needs) sub-if2 add-result returns-2 returns-3)

@@ -14,12 +14,6 @@ Inv-loop n r₀ r = (root n ≤ r) × (r ≤ mostRoot)
 abbrev μ-loop : tie.MeasureT-loop
 μ-loop n r₀ r = r
 
-root-or-above-requires : tie.Need-root-or-above-requires Inv-loop μ-loop
-root-or-above-requires c κs = search needs
-
-loop-holds : tie.Need-loop-holds Inv-loop μ-loop
-loop-holds c = search needs
-
 mul-loop : tie.Need-mul-loop Inv-loop μ-loop
 mul-loop c =
     let m : c .loop .r * c .loop .r ≤ 4294967295 * 4294967295 = square-mono {b = 4294967295} (omega arith) in
@@ -49,4 +43,4 @@ returns c = reached (c .before .before .before .args .n) (c .before .loop .r) (c
 
 pub root-spec : {M : Type 1} → statement M
 root-spec =
-    tie.close (tie.spec Inv-loop μ-loop root-or-above-requires loop-holds mul-loop div-r add-r loop-less loop-again returns)
+    tie.close (tie.spec Inv-loop μ-loop (λ c κs. search needs) (λ c. search needs) mul-loop div-r add-r loop-less loop-again returns)

@@ -6,9 +6,6 @@ use Rattle.whole.proofs.Newton.{step-above}
 use Rattle.whole.proofs.step.Statement.{statement}
 use Rattle.whole.proofs.step.Tie as tie
 
-div-result : tie.Need-div-result
-div-result c = search needs
-
 add-result : tie.Need-add-result
 add-result c = omega (arith, div-le-self (c .args .n) (c .args .r))
 
@@ -19,4 +16,4 @@ returns : tie.Need-returns
 returns c = let s = step-above (c .args .n) (c .args .r) (c .pre) in (omega arith, omega arith)
 
 pub step-spec : {M : Type 1} → statement M
-step-spec = tie.close (tie.spec div-result add-result add-result-2 returns)
+step-spec = tie.close (tie.spec (λ c. search needs) add-result add-result-2 returns)

@@ -87,15 +87,9 @@ answered c =
     let f = angle-back (s .at .latitude) (omega (arith, read-within 90 perDegree (s .at .latitude) (j .latitude))) (c .before .centiseconds3 .ensures) in
     rw (m, l, f) at (c .forward .ensures)
 
-is-kind-requires : tie.Need-is-kind-requires
-is-kind-requires c κs = search needs
-
 returns : tie.Need-returns
 unfolding forwardOf unless
 returns c = rw (← c .before .is-kind .ensures, c .if1 .taken)
-
-all-finite-requires : tie.Need-all-finite-requires
-all-finite-requires c κs = search needs
 
 returns-2 : tie.Need-returns-2
 unfolding forwardOf unless
@@ -105,18 +99,12 @@ returns-2 c =
     (any-bad _ (finite (s .central)) (finite (s .at .longitude)) (finite (s .at .latitude))
     (sym (c .before .all-finite .ensures) ∙ not-true (c .before .all-finite .result) (c .if2 .taken)))
 
-outside-requires : tie.Need-outside-requires
-outside-requires c κs = search needs
-
 returns-3 : tie.Need-returns-3
 unfolding forwardOf unless
 returns-3 c =
     let c2 = c .before .before in
     let h = all-good c2 in
     rw (kind-good (c2 .before .before), h .first, h .second, h .third, ← limit-180 (start2 c2 .args .central), ← c .before .outside .ensures, c .if3 .taken)
-
-outside-requires-2 : tie.Need-outside-requires-2
-outside-requires-2 c κs = search needs
 
 returns-4 : tie.Need-returns-4
 unfolding forwardOf unless
@@ -125,9 +113,6 @@ returns-4 c =
     let c2 = c3 .before .before in
     let h = all-good c2 in
     rw (kind-good (c2 .before .before), h .first, h .second, h .third, central-good c3, ← limit-180 (start3 c3 .args .at .longitude), ← c .before .outside2 .ensures, c .if4 .taken)
-
-outside-requires-3 : tie.Need-outside-requires-3
-outside-requires-3 c κs = search needs
 
 returns-5 : tie.Need-returns-5
 unfolding forwardOf unless
@@ -151,12 +136,6 @@ centiseconds-requires-3 c κs =
     let x = start5 c5 .args .at .latitude in
     (judged c5 .finite .third, omega (arith, read-within 90 perDegree x (judged c5 .latitude)))
 
-forward-requires : tie.Need-forward-requires
-forward-requires c κs = search needs
-
-written-place-requires : tie.Need-written-place-requires
-written-place-requires c κs = search needs
-
 returns-6 : tie.Need-returns-6
 returns-6 c =
     let c5 = c .before .before .before .before .before in
@@ -171,19 +150,19 @@ pub forward-degrees-spec : {M : Type 1} → statement M
 forward-degrees-spec =
     tie.close
     (tie.spec
-    is-kind-requires
+    (λ c κs. search needs)
     returns
-    all-finite-requires
+    (λ c κs. search needs)
     returns-2
-    outside-requires
+    (λ c κs. search needs)
     returns-3
-    outside-requires-2
+    (λ c κs. search needs)
     returns-4
-    outside-requires-3
+    (λ c κs. search needs)
     returns-5
     centiseconds-requires
     centiseconds-requires-2
     centiseconds-requires-3
-    forward-requires
-    written-place-requires
+    (λ c κs. search needs)
+    (λ c κs. search needs)
     returns-6)

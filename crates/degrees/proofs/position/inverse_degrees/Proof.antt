@@ -63,15 +63,9 @@ answered c =
     ∙ inverse-held (s .kind) (centiseconds (s .central)) (units (s .x)) (units (s .y)) (kind-good (c3 .before .before .before .before))
     (read-within 180 perDegree (s .central) (central-good c3))
 
-is-kind-requires : tie.Need-is-kind-requires
-is-kind-requires c κs = search needs
-
 returns : tie.Need-returns
 unfolding inverseOf unless
 returns c = rw (← c .before .is-kind .ensures, c .if1 .taken)
-
-all-finite-requires : tie.Need-all-finite-requires
-all-finite-requires c κs = search needs
 
 returns-2 : tie.Need-returns-2
 unfolding inverseOf unless
@@ -80,9 +74,6 @@ returns-2 c =
     rw (kind-good (c .before .before))
     (any-bad _ (finite (s .central)) (finite (s .x)) (finite (s .y))
     (sym (c .before .all-finite .ensures) ∙ not-true (c .before .all-finite .result) (c .if2 .taken)))
-
-outside-requires : tie.Need-outside-requires
-outside-requires c κs = search needs
 
 returns-3 : tie.Need-returns-3
 unfolding inverseOf unless
@@ -100,12 +91,6 @@ units-requires c κs = all-good (c .before .before .before) .second
 units-requires-2 : tie.Need-units-requires-2
 units-requires-2 c κs = all-good (c .before .before .before .before) .third
 
-inverse-requires : tie.Need-inverse-requires
-inverse-requires c κs = search needs
-
-written-position-requires : tie.Need-written-position-requires
-written-position-requires c κs = search needs
-
 returns-4 : tie.Need-returns-4
 returns-4 c =
     let c3 = c .before .before .before .before .before in
@@ -119,15 +104,15 @@ pub inverse-degrees-spec : {M : Type 1} → statement M
 inverse-degrees-spec =
     tie.close
     (tie.spec
-    is-kind-requires
+    (λ c κs. search needs)
     returns
-    all-finite-requires
+    (λ c κs. search needs)
     returns-2
-    outside-requires
+    (λ c κs. search needs)
     returns-3
     centiseconds-requires
     units-requires
     units-requires-2
-    inverse-requires
-    written-position-requires
+    (λ c κs. search needs)
+    (λ c κs. search needs)
     returns-4)

@@ -13,24 +13,15 @@ first c = sym (c .before .finite .ensures) ∙ not-false (c .before .finite .res
 second : (c : tie.Else2) → finite (c .before .before .before .before .args .b) ≡ true
 second c = sym (c .before .finite2 .ensures) ∙ not-false (c .before .finite2 .result) (c .if2 .left)
 
-finite-requires : tie.Need-finite-requires
-finite-requires c κs = search needs
-
 returns : tie.Need-returns
 returns c = rw (sym (c .before .finite .ensures) ∙ not-true (c .before .finite .result) (c .if1 .taken))
-
-finite-requires-2 : tie.Need-finite-requires-2
-finite-requires-2 c κs = search needs
 
 returns-2 : tie.Need-returns-2
 returns-2 c =
     rw (first (c .before .before), sym (c .before .finite2 .ensures) ∙ not-true (c .before .finite2 .result) (c .if2 .taken))
 
-finite-requires-3 : tie.Need-finite-requires-3
-finite-requires-3 c κs = search needs
-
 returns-3 : tie.Need-returns-3
 returns-3 c = rw (first (c .before .before .before), second (c .before)) (c .finite3 .ensures)
 
 pub all-finite-spec : {M : Type 1} → statement M
-all-finite-spec = tie.close (tie.spec finite-requires returns finite-requires-2 returns-2 finite-requires-3 returns-3)
+all-finite-spec = tie.close (tie.spec (λ c κs. search needs) returns (λ c κs. search needs) returns-2 (λ c κs. search needs) returns-3)

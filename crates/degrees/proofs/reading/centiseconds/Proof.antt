@@ -10,9 +10,6 @@ use Rattle.degrees.proofs.Numbers.{angle-back}
 use Rattle.degrees.proofs.reading.centiseconds.Statement.{statement}
 use Rattle.degrees.proofs.reading.centiseconds.Tie as tie
 
-read-requires : tie.Need-read-requires
-read-requires c κs = search needs
-
 returns : tie.Need-returns
 returns c =
     let x = c .before .args .x in
@@ -20,4 +17,4 @@ returns c =
     angle-back x l (c .read .ensures ∙ on-same (min most) (centiseconds x) (omega arith))
 
 pub centiseconds-spec : {M : Type 1} → statement M
-centiseconds-spec = tie.close (tie.spec read-requires returns)
+centiseconds-spec = tie.close (tie.spec (λ c κs. search needs) returns)

@@ -36,9 +36,6 @@ mul-high c = omega (arith, high-fits c)
 add-high : tie.Need-add-high
 add-high c = omega (arith, high-fits c)
 
-shl-unit : tie.Need-shl-unit
-shl-unit c = search needs
-
 div-halves : tie.Need-div-halves
 div-halves c = unit-pos c
 
@@ -81,7 +78,7 @@ quarters-spec =
     mul-low
     mul-high
     add-high
-    shl-unit
+    (λ c. search needs)
     div-halves
     rem-if1
     add-if1

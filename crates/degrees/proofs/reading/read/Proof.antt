@@ -53,9 +53,6 @@ float-to-bits-bits c = no-nan (c .args .x) (c .pre .0)
 size-of-requires : tie.Need-size-of-requires
 size-of-requires c κs = (finite-bits c, c .pre .1)
 
-join-requires : tie.Need-join-requires
-join-requires c κs = search needs
-
 cast-result : tie.Need-cast-result
 cast-result c =
     let l = size-low (c .before) in
@@ -65,4 +62,4 @@ returns : tie.Need-returns
 returns c = join-back (number (c .before)) (size-low (c .before)) (c .join .ensures) ∙ number-is (c .before)
 
 pub read-spec : {M : Type 1} → statement M
-read-spec = tie.close (tie.spec float-to-bits-bits size-of-requires join-requires cast-result returns)
+read-spec = tie.close (tie.spec float-to-bits-bits size-of-requires (λ c κs. search needs) cast-result returns)

@@ -37,18 +37,6 @@ returns-2 c =
     rw (tiny (s .args .digits) (s .args .power) (s .args .by) (s .pre .0) (s .pre .1 .1 .1) (c .before .if1 .left) (c .if2 .taken))
     (omega arith)
 
-quarters-requires : tie.Need-quarters-requires
-quarters-requires c κs = search needs
-
-nearest-requires : tie.Need-nearest-requires
-nearest-requires c κs = search needs
-
-cast-if3 : tie.Need-cast-if3
-cast-if3 c = search needs
-
-cast-result : tie.Need-cast-result
-cast-result c = search needs
-
 returns-3 : tie.Need-returns-3
 returns-3 c = omega (arith, rounded (c .before))
 
@@ -56,4 +44,4 @@ returns-4 : tie.Need-returns-4
 returns-4 c = omega (arith, rounded (c .before))
 
 pub scaled-spec : {M : Type 1} → statement M
-scaled-spec = tie.close (tie.spec returns returns-2 quarters-requires nearest-requires cast-if3 cast-result returns-3 returns-4)
+scaled-spec = tie.close (tie.spec returns returns-2 (λ c κs. search needs) (λ c κs. search needs) (λ c. search needs) (λ c. search needs) returns-3 returns-4)

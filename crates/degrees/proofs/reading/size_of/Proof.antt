@@ -11,18 +11,6 @@ use Rattle.degrees.proofs.Floats.{size-read, subnormal, normal}
 use Rattle.degrees.proofs.reading.size_of.Statement.{statement}
 use Rattle.degrees.proofs.reading.size_of.Tie as tie
 
-scaled-requires : tie.Need-scaled-requires
-scaled-requires c κs = search needs
-
-add-scaled : tie.Need-add-scaled
-add-scaled c = search needs
-
-sub-scaled : tie.Need-sub-scaled
-sub-scaled c = search needs
-
-scaled-requires-2 : tie.Need-scaled-requires-2
-scaled-requires-2 c κs = search needs
-
 returns : tie.Need-returns
 returns c =
     let s = c .before .before .args in
@@ -43,4 +31,4 @@ returns-2 c =
     (normal b k (omega arith) (s .pre .0))))
 
 pub size-of-spec : {M : Type 1} → statement M
-size-of-spec = tie.close (tie.spec scaled-requires add-scaled sub-scaled scaled-requires-2 returns returns-2)
+size-of-spec = tie.close (tie.spec (λ c κs. search needs) (λ c. search needs) (λ c. search needs) (λ c κs. search needs) returns returns-2)

@@ -14,18 +14,6 @@ use Rattle.degrees.specs.Answer.{onGiven, writtenPlace}
 use Rattle.degrees.proofs.writing.written_place.Statement.{statement}
 use Rattle.degrees.proofs.writing.written_place.Tie as tie
 
-enum-known-answer : tie.Need-enum-known-answer
-enum-known-answer c = search needs
-
-int-to-float-east : tie.Need-int-to-float-east
-int-to-float-east c = search needs
-
-int-to-float-north : tie.Need-int-to-float-north
-int-to-float-north c = search needs
-
-enum-known-answer-2 : tie.Need-enum-known-answer-2
-enum-known-answer-2 c = search needs
-
 returns : tie.Need-returns
 unfolding unitsOf
 returns c =
@@ -39,4 +27,4 @@ returns-2 : tie.Need-returns-2
 returns-2 c = sym (ap (λ (w : Answer). onGiven writtenPlace (meaning w)) (c .before .answer2 .given .1))
 
 pub written-place-spec : {M : Type 1} → statement M
-written-place-spec = tie.close (tie.spec enum-known-answer int-to-float-east int-to-float-north enum-known-answer-2 returns returns-2)
+written-place-spec = tie.close (tie.spec (λ c. search needs) (λ c. search needs) (λ c. search needs) (λ c. search needs) returns returns-2)

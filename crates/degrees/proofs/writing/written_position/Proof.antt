@@ -13,15 +13,6 @@ use Rattle.degrees.specs.Answer.{onGiven, writtenPosition}
 use Rattle.degrees.proofs.writing.written_position.Statement.{statement}
 use Rattle.degrees.proofs.writing.written_position.Tie as tie
 
-enum-known-answer : tie.Need-enum-known-answer
-enum-known-answer c = search needs
-
-from-centiseconds-requires : tie.Need-from-centiseconds-requires
-from-centiseconds-requires c κs = search needs
-
-enum-known-answer-2 : tie.Need-enum-known-answer-2
-enum-known-answer-2 c = search needs
-
 returns : tie.Need-returns
 returns c =
     let a = c .before .before .answer .given in
@@ -34,4 +25,4 @@ returns-2 : tie.Need-returns-2
 returns-2 c = sym (ap (λ (w : Answer). onGiven writtenPosition (meaning w)) (c .before .answer2 .given .1))
 
 pub written-position-spec : {M : Type 1} → statement M
-written-position-spec = tie.close (tie.spec enum-known-answer from-centiseconds-requires enum-known-answer-2 returns returns-2)
+written-position-spec = tie.close (tie.spec (λ c. search needs) (λ c κs. search needs) (λ c. search needs) returns returns-2)

@@ -7,16 +7,10 @@ use Rattle.projection.specs.Refusal.{given}
 use Rattle.projection.proofs.answer.pair.Statement.{statement}
 use Rattle.projection.proofs.answer.pair.Tie as tie
 
-join-requires : tie.Need-join-requires
-join-requires c κs = search needs
-
 cast-t4 : tie.Need-cast-t4
 cast-t4 c =
     let s = c .before in
     rw (join-wide (s .args .first) (s .pre .0) (c .join .ensures)) (join-fits (s .args .first) (s .pre .0))
-
-join-requires-2 : tie.Need-join-requires-2
-join-requires-2 c κs = search needs
 
 cast-t6 : tie.Need-cast-t6
 cast-t6 c =
@@ -30,4 +24,4 @@ returns c =
     (join-back (s .args .second) (s .pre .1) (c .join2 .ensures))
 
 pub pair-spec : {M : Type 1} → statement M
-pair-spec = tie.close (tie.spec join-requires cast-t4 join-requires-2 cast-t6 returns)
+pair-spec = tie.close (tie.spec (λ c κs. search needs) cast-t4 (λ c κs. search needs) cast-t6 returns)

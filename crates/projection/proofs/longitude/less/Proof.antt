@@ -12,9 +12,6 @@ use Rattle.projection.specs.Longitude.{wrap}
 use Rattle.projection.proofs.longitude.less.Statement.{statement}
 use Rattle.projection.proofs.longitude.less.Tie as tie
 
-sub-apart : tie.Need-sub-apart
-sub-apart c = search needs
-
 cast-wrapped : tie.Need-cast-wrapped
 cast-wrapped c = ⊎-elim (λ w. search needs) (λ w. search needs) (c .before .if1 .came)
 
@@ -34,4 +31,4 @@ returns : tie.Need-returns
 returns c = c .wrapped .ensures ∙ ap wrap (sym (signed (c .before)))
 
 pub less-spec : {M : Type 1} → statement M
-less-spec = tie.close (tie.spec sub-apart cast-wrapped wrapped-requires returns)
+less-spec = tie.close (tie.spec (λ c. search needs) cast-wrapped wrapped-requires returns)

@@ -16,12 +16,6 @@ use Rattle.projection.proofs.longitude.sum.Tie as tie
 part : (s : Signed) → s .size ≤ N → (plus (joinOf s) ≤ N) × (minus (joinOf s) ≤ N)
 part s h = let p = parts (joinOf s) in let e = natAbs-join s in (omega arith, omega arith)
 
-plus-requires : tie.Need-plus-requires
-plus-requires c κs = search needs
-
-plus-requires-2 : tie.Need-plus-requires-2
-plus-requires-2 c κs = search needs
-
 east : (c : tie.After-plus2) →
     let s = c .before .before .args in
     c .before .plus .result + c .plus2 .result ≡ plus (joinOf (s .first)) + plus (joinOf (s .second))
@@ -36,12 +30,6 @@ add-less : tie.Need-add-less
 add-less c =
     let s = c .before .before in
     rw (east c) (omega (arith, part (s .args .first) (s .pre .0), part (s .args .second) (s .pre .1)))
-
-minus-requires : tie.Need-minus-requires
-minus-requires c κs = search needs
-
-minus-requires-2 : tie.Need-minus-requires-2
-minus-requires-2 c κs = search needs
 
 add-less-2 : tie.Need-add-less-2
 add-less-2 c =
@@ -65,4 +53,4 @@ returns c =
 
 pub sum-spec : {M : Type 1} → statement M
 sum-spec =
-    tie.close (tie.spec plus-requires plus-requires-2 add-less minus-requires minus-requires-2 add-less-2 less-requires returns)
+    tie.close (tie.spec (λ c κs. search needs) (λ c κs. search needs) add-less (λ c κs. search needs) (λ c κs. search needs) add-less-2 less-requires returns)

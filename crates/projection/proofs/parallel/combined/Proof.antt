@@ -47,20 +47,8 @@ minus-y : (c : tie.After-minus2) → c .minus2 .result ≡ minus (c .before .bef
 minus-y c =
     c .minus2 .ensures ∙ ap minus (number-is _ (c .before .before .before .before .before .before .fits .y) (c .before .before .before .before .split2 .ensures))
 
-split-requires : tie.Need-split-requires
-split-requires c κs = search needs
-
-split-requires-2 : tie.Need-split-requires-2
-split-requires-2 c κs = search needs
-
-plus-requires : tie.Need-plus-requires
-plus-requires c κs = search needs
-
 mul-result : tie.Need-mul-result
 mul-result c = let b = products (c .before .before .before .pre) in rw (plus-x c) (omega arith)
-
-plus-requires-2 : tie.Need-plus-requires-2
-plus-requires-2 c κs = search needs
 
 mul-result-2 : tie.Need-mul-result-2
 mul-result-2 c = let b = products (c .before .before .before .before .pre) in rw (plus-y c) (omega arith)
@@ -68,14 +56,8 @@ mul-result-2 c = let b = products (c .before .before .before .before .pre) in rw
 add-result : tie.Need-add-result
 add-result c = let b = products (c .before .before .before .before .pre) in rw (plus-x (c .before), plus-y c) (omega arith)
 
-minus-requires : tie.Need-minus-requires
-minus-requires c κs = search needs
-
 mul-result-3 : tie.Need-mul-result-3
 mul-result-3 c = let b = products (c .before .before .before .before .before .pre) in rw (minus-x c) (omega arith)
-
-minus-requires-2 : tie.Need-minus-requires-2
-minus-requires-2 c κs = search needs
 
 mul-result-4 : tie.Need-mul-result-4
 mul-result-4 c = let b = products (c .before .before .before .before .before .before .pre) in rw (minus-y c) (omega arith)
@@ -100,16 +82,16 @@ pub combined-spec : {M : Type 1} → statement M
 combined-spec =
     tie.close
     (tie.spec
-    split-requires
-    split-requires-2
-    plus-requires
+    (λ c κs. search needs)
+    (λ c κs. search needs)
+    (λ c κs. search needs)
     mul-result
-    plus-requires-2
+    (λ c κs. search needs)
     mul-result-2
     add-result
-    minus-requires
+    (λ c κs. search needs)
     mul-result-3
-    minus-requires-2
+    (λ c κs. search needs)
     mul-result-4
     add-result-2
     sub-result

@@ -16,18 +16,9 @@ use Rattle.projection.proofs.parallel.half_width.Tie as tie
 latitude-is : (c : tie.After-new) → joinOf (c .new .result .count) ≡ c .before .before .before .args .latitude
 latitude-is c = number-is (c .new .result .count) (c .before .before .before .fits .latitude) (c .new .ensures)
 
-is-kind-requires : tie.Need-is-kind-requires
-is-kind-requires c κs = search needs
-
 returns : tie.Need-returns
 unfolding widthOf unless
 returns c = rw (← c .before .is-kind .ensures, c .if1 .taken)
-
-new-requires : tie.Need-new-requires
-new-requires c κs = search needs
-
-outside-requires : tie.Need-outside-requires
-outside-requires c κs = search needs
 
 returns-2 : tie.Need-returns-2
 unfolding widthOf unless
@@ -59,10 +50,10 @@ pub half-width-spec : {M : Type 1} → statement M
 half-width-spec =
     tie.close
     (tie.spec
-    is-kind-requires
+    (λ c κs. search needs)
     returns
-    new-requires
-    outside-requires
+    (λ c κs. search needs)
+    (λ c κs. search needs)
     returns-2
     row-of-requires
     row-half-width-requires

@@ -9,12 +9,6 @@ use Rattle.projection.proofs.Widths.{root-small, numerator-whole}
 use Rattle.projection.proofs.parallel.numerator.Statement.{statement}
 use Rattle.projection.proofs.parallel.numerator.Tie as tie
 
-cast-combined : tie.Need-cast-combined
-cast-combined c = search needs
-
-root-at-requires : tie.Need-root-at-requires
-root-at-requires c κs = search needs
-
 combined-requires : tie.Need-combined-requires
 combined-requires c κs =
     let s = c .before .before .before in
@@ -34,4 +28,4 @@ returns c =
     c .combined .ensures ∙ rw (column (s .args .row .a) (s .pre .columns .a-small), column (s .args .row .b) (s .pre .columns .b-small), c .before .before .before .root-at .ensures)
 
 pub numerator-spec : {M : Type 1} → statement M
-numerator-spec = tie.close (tie.spec cast-combined root-at-requires combined-requires returns)
+numerator-spec = tie.close (tie.spec (λ c. search needs) (λ c κs. search needs) combined-requires returns)

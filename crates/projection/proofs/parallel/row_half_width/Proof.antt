@@ -12,25 +12,10 @@ width-is : (c : tie.After-nearest) →
 unfolding halfWidth
 width-is c = cc
 
-cast-nearest : tie.Need-cast-nearest
-cast-nearest c = search needs
-
-numerator-requires : tie.Need-numerator-requires
-numerator-requires c κs = search needs
-
 mul-nearest : tie.Need-mul-nearest
 mul-nearest c =
     let s = c .before .before in
     rw (c .numerator .ensures) (omega (arith, product-small (s .args .row) (s .args .p) (s .pre)))
-
-cast-nearest-2 : tie.Need-cast-nearest-2
-cast-nearest-2 c = search needs
-
-mul-nearest-2 : tie.Need-mul-nearest-2
-mul-nearest-2 c = search needs
-
-nearest-requires : tie.Need-nearest-requires
-nearest-requires c κs = search needs
 
 cast-result : tie.Need-cast-result
 cast-result c =
@@ -44,11 +29,11 @@ pub row-half-width-spec : {M : Type 1} → statement M
 row-half-width-spec =
     tie.close
     (tie.spec
-    cast-nearest
-    numerator-requires
+    (λ c. search needs)
+    (λ c κs. search needs)
     mul-nearest
-    cast-nearest-2
-    mul-nearest-2
-    nearest-requires
+    (λ c. search needs)
+    (λ c. search needs)
+    (λ c κs. search needs)
     cast-result
     returns)

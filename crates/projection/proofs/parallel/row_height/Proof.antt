@@ -11,19 +11,10 @@ use Rattle.projection.proofs.parallel.row_height.Tie as tie
 latitude-le : (c : tie.After-struct-known) → c .before .args .p ≤ N
 latitude-le c = omega arith
 
-cast-nearest : tie.Need-cast-nearest
-cast-nearest c = search needs
-
 mul-nearest : tie.Need-mul-nearest
 mul-nearest c =
     let s = c .before in
     omega (arith, scaled-small (s .args .row .ky) (s .args .p) (s .pre .columns .ky-high) (latitude-le c))
-
-cast-nearest-2 : tie.Need-cast-nearest-2
-cast-nearest-2 c = search needs
-
-nearest-requires : tie.Need-nearest-requires
-nearest-requires c κs = search needs
 
 cast-result : tie.Need-cast-result
 cast-result c =
@@ -35,4 +26,4 @@ unfolding height
 returns c = search needs
 
 pub row-height-spec : {M : Type 1} → statement M
-row-height-spec = tie.close (tie.spec cast-nearest mul-nearest cast-nearest-2 nearest-requires cast-result returns)
+row-height-spec = tie.close (tie.spec (λ c. search needs) mul-nearest (λ c. search needs) (λ c κs. search needs) cast-result returns)

@@ -48,40 +48,19 @@ longitude-good c = rw (c .before .outside2 .ensures, longitude-is (c .before .be
 latitude-good : (c : tie.Else4) → Passes (badLatitude (start4 c .args .latitude))
 latitude-good c = rw (c .before .outside3 .ensures, latitude-is (c .before .before)) at (c .if4 .left)
 
-is-kind-requires : tie.Need-is-kind-requires
-is-kind-requires c κs = search needs
-
 returns : tie.Need-returns
 unfolding forwardOf unless
 returns c = rw (← c .before .is-kind .ensures, c .if1 .taken)
 
-new-requires : tie.Need-new-requires
-new-requires c κs = search needs
-
-outside-requires : tie.Need-outside-requires
-outside-requires c κs = search needs
-
 returns-2 : tie.Need-returns-2
 unfolding forwardOf unless
 returns-2 c = rw (kind-good (c .before .before .before), ← central-is (c .before .before), ← c .before .outside .ensures, c .if2 .taken)
-
-new-requires-2 : tie.Need-new-requires-2
-new-requires-2 c κs = search needs
-
-outside-requires-2 : tie.Need-outside-requires-2
-outside-requires-2 c κs = search needs
 
 returns-3 : tie.Need-returns-3
 unfolding forwardOf unless
 returns-3 c =
     let c2 = c .before .before .before in
     rw (kind-good (c2 .before .before .before), central-good c2, ← longitude-is (c .before .before), ← c .before .outside2 .ensures, c .if3 .taken)
-
-new-requires-3 : tie.Need-new-requires-3
-new-requires-3 c κs = search needs
-
-outside-requires-3 : tie.Need-outside-requires-3
-outside-requires-3 c κs = search needs
 
 returns-4 : tie.Need-returns-4
 unfolding forwardOf unless
@@ -123,16 +102,16 @@ pub forward-spec : {M : Type 1} → statement M
 forward-spec =
     tie.close
     (tie.spec
-    is-kind-requires
+    (λ c κs. search needs)
     returns
-    new-requires
-    outside-requires
+    (λ c κs. search needs)
+    (λ c κs. search needs)
     returns-2
-    new-requires-2
-    outside-requires-2
+    (λ c κs. search needs)
+    (λ c κs. search needs)
     returns-3
-    new-requires-3
-    outside-requires-3
+    (λ c κs. search needs)
+    (λ c κs. search needs)
     returns-4
     row-of-requires
     place-requires

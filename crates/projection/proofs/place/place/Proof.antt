@@ -39,17 +39,8 @@ x-is c =
     ∙ ap₂ (λ (w : ℕ) (d : ℤ). nearestSigned (pos w *ℤ d) N)
     (c .before .before .row-half-width .ensures ∙ ap (halfWidth (s .row)) (sym (natAbs-join (s .latitude)))) (c .before .difference .ensures)
 
-row-half-width-requires : tie.Need-row-half-width-requires
-row-half-width-requires c κs = search needs
-
-difference-requires : tie.Need-difference-requires
-difference-requires c κs = search needs
-
 scaled-requires : tie.Need-scaled-requires
 scaled-requires c κs = (width-below (c .before), d-le c)
-
-scaled-requires-2 : tie.Need-scaled-requires-2
-scaled-requires-2 c κs = search needs
 
 pair-requires : tie.Need-pair-requires
 pair-requires c κs =
@@ -73,4 +64,4 @@ returns c =
 
 pub place-spec : {M : Type 1} → statement M
 place-spec =
-    tie.close (tie.spec row-half-width-requires difference-requires scaled-requires scaled-requires-2 pair-requires returns)
+    tie.close (tie.spec (λ c κs. search needs) (λ c κs. search needs) scaled-requires (λ c κs. search needs) pair-requires returns)

@@ -35,18 +35,9 @@ x-is c = number-is (c .split .result) (start2 (c .before .before) .fits .x) (c .
 y-is : (c : tie.After-split2) → joinOf (c .split2 .result) ≡ start2 (c .before .before .before) .args .y
 y-is c = number-is (c .split2 .result) (start2 (c .before .before .before) .fits .y) (c .split2 .ensures)
 
-is-kind-requires : tie.Need-is-kind-requires
-is-kind-requires c κs = search needs
-
 returns : tie.Need-returns
 unfolding inverseOf unless
 returns c = rw (← c .before .is-kind .ensures, c .if1 .taken)
-
-new-requires : tie.Need-new-requires
-new-requires c κs = search needs
-
-outside-requires : tie.Need-outside-requires
-outside-requires c κs = search needs
 
 returns-2 : tie.Need-returns-2
 unfolding inverseOf unless
@@ -57,12 +48,6 @@ kind-true c = not-false (isKind (start2 c .args .kind)) (kind-good (c .before .b
 
 row-of-requires : tie.Need-row-of-requires
 row-of-requires c κs = kind-true c
-
-split-requires : tie.Need-split-requires
-split-requires c κs = search needs
-
-split-requires-2 : tie.Need-split-requires-2
-split-requires-2 c κs = search needs
 
 position-requires : tie.Need-position-requires
 position-requires c κs =
@@ -85,13 +70,13 @@ pub inverse-spec : {M : Type 1} → statement M
 inverse-spec =
     tie.close
     (tie.spec
-    is-kind-requires
+    (λ c κs. search needs)
     returns
-    new-requires
-    outside-requires
+    (λ c κs. search needs)
+    (λ c κs. search needs)
     returns-2
     row-of-requires
-    split-requires
-    split-requires-2
+    (λ c κs. search needs)
+    (λ c κs. search needs)
     position-requires
     returns-3)

@@ -87,9 +87,6 @@ longitude-is c =
     ∙ ap (λ (w : ℕ). nearestSigned (joinOf (s .x) *ℤ pos N) w) (width-is r)
     ∙ sym (difference-is (widthAt (s .row) (joinOf (s .y))) (joinOf (s .x))))
 
-row-height-requires : tie.Need-row-height-requires
-row-height-requires c κs = search needs
-
 y-bad : (c : tie.Then1) → let s = c .before .before .before .args in Applies (badY (s .row) (joinOf (s .y)))
 y-bad c =
     let s = c .before .before .before .args in
@@ -120,9 +117,6 @@ returns-2 c =
     let s = start1 c1 .args in
     row-7 (s .row) (joinOf (s .central)) (joinOf (s .x)) (joinOf (s .y)) (y-good c1) (x-bad c)
 
-unscaled-requires-2 : tie.Need-unscaled-requires-2
-unscaled-requires-2 c κs = search needs
-
 sum-requires : tie.Need-sum-requires
 sum-requires c κs = (start2 (c .before) .pre .1, difference-small c)
 
@@ -149,12 +143,12 @@ pub position-spec : {M : Type 1} → statement M
 position-spec =
     tie.close
     (tie.spec
-    row-height-requires
+    (λ c κs. search needs)
     returns
     unscaled-requires
     row-half-width-requires
     returns-2
-    unscaled-requires-2
+    (λ c κs. search needs)
     sum-requires
     pair-requires
     returns-3)

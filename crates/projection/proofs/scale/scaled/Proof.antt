@@ -11,19 +11,10 @@ use Rattle.projection.proofs.Scales.{scaled-zero, scaled-le, scaled-sma
 use Rattle.projection.proofs.scale.scaled.Statement.{statement}
 use Rattle.projection.proofs.scale.scaled.Tie as tie
 
-cast-nearest : tie.Need-cast-nearest
-cast-nearest c = search needs
-
 mul-nearest : tie.Need-mul-nearest
 mul-nearest c =
     let s = c .before in
     omega (arith, scaled-small (s .args .w) (s .args .z .size) (s .pre .0) (s .pre .1))
-
-cast-nearest-2 : tie.Need-cast-nearest-2
-cast-nearest-2 c = search needs
-
-nearest-requires : tie.Need-nearest-requires
-nearest-requires c κs = search needs
 
 cast-t8 : tie.Need-cast-t8
 cast-t8 c =
@@ -39,4 +30,4 @@ returns c =
     ∙ sym (nearest-left (s .w) (joinOf z) N)
 
 pub scaled-spec : {M : Type 1} → statement M
-scaled-spec = tie.close (tie.spec cast-nearest mul-nearest cast-nearest-2 nearest-requires cast-t8 returns)
+scaled-spec = tie.close (tie.spec (λ c. search needs) mul-nearest (λ c. search needs) (λ c κs. search needs) cast-t8 returns)

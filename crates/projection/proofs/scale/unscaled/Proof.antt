@@ -11,18 +11,6 @@ use Rattle.projection.proofs.Scales.{unscaled-zero, unscaled-le}
 use Rattle.projection.proofs.scale.unscaled.Statement.{statement}
 use Rattle.projection.proofs.scale.unscaled.Tie as tie
 
-cast-nearest : tie.Need-cast-nearest
-cast-nearest c = search needs
-
-cast-nearest-2 : tie.Need-cast-nearest-2
-cast-nearest-2 c = search needs
-
-mul-nearest : tie.Need-mul-nearest
-mul-nearest c = search needs
-
-nearest-requires : tie.Need-nearest-requires
-nearest-requires c κs = search needs
-
 cast-t8 : tie.Need-cast-t8
 cast-t8 c =
     let s = c .before .before in
@@ -37,4 +25,4 @@ returns c =
     ∙ sym (nearest-right (joinOf z) N (s .w))
 
 pub unscaled-spec : {M : Type 1} → statement M
-unscaled-spec = tie.close (tie.spec cast-nearest cast-nearest-2 mul-nearest nearest-requires cast-t8 returns)
+unscaled-spec = tie.close (tie.spec (λ c. search needs) (λ c. search needs) (λ c. search needs) (λ c κs. search needs) cast-t8 returns)

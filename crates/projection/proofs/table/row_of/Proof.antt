@@ -12,12 +12,6 @@ use Rattle.projection.proofs.table.row_of.Tie as tie
 sub-i : tie.Need-sub-i
 sub-i c = kind-range (c .args .kind) (c .pre) .0
 
-cast-i : tie.Need-cast-i
-cast-i c = search needs
-
-mul-row : tie.Need-mul-row
-mul-row c = search needs
-
 array-copy-out-row : tie.Need-array-copy-out-row
 unfolding rows
 array-copy-out-row c = omega (arith, kind-range (c .args .kind) (c .pre))
@@ -32,4 +26,4 @@ returns c =
     rw (toZ-ofZ fa, toZ-ofZ fb, toZ-ofZ fe)
 
 pub row-of-spec : {M : Type 1} → statement M
-row-of-spec = tie.close (tie.spec sub-i cast-i mul-row array-copy-out-row returns)
+row-of-spec = tie.close (tie.spec sub-i (λ c. search needs) (λ c. search needs) array-copy-out-row returns)

@@ -9,23 +9,11 @@ use Rattle.query.proofs.number.grown.Tie as tie
 room : (c : tie.Else1) → c .before .args .size * c .before .args .base + c .before .args .digit < 2 ^ 64
 room c = let l = le-div-iff-mul-le (c .before .pre) .0 (c .if1 .left) in omega (arith, l)
 
-sub-if1 : tie.Need-sub-if1
-sub-if1 c = search needs
-
-div-if1 : tie.Need-div-if1
-div-if1 c = search needs
-
 mul-result : tie.Need-mul-result
 mul-result c = omega (arith, room c)
 
 add-result : tie.Need-add-result
 add-result c = omega (arith, room c)
 
-returns : tie.Need-returns
-returns c = search needs
-
-returns-2 : tie.Need-returns-2
-returns-2 c = search needs
-
 pub grown-spec : {M : Type 1} → statement M
-grown-spec = tie.close (tie.spec sub-if1 div-if1 mul-result add-result returns returns-2)
+grown-spec = tie.close (tie.spec (λ c. search needs) (λ c. search needs) mul-result add-result (λ c. search needs) (λ c. search needs))

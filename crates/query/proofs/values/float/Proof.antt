@@ -9,11 +9,5 @@ use Rattle.query.proofs.values.float.Tie as tie
 float-from-bits-result : tie.Need-float-from-bits-result
 float-from-bits-result c = rw (nanBits-above binary64 _, le-ltb _ _ (c .if3 .left)) tt
 
-returns : tie.Need-returns
-returns c = search needs
-
-returns-2 : tie.Need-returns-2
-returns-2 c = search needs
-
 pub float-spec : {M : Type 1} → statement M
-float-spec = tie.close (tie.spec float-from-bits-result returns returns-2)
+float-spec = tie.close (tie.spec float-from-bits-result (λ c. search needs) (λ c. search needs))

@@ -14,33 +14,6 @@ use borrow.Author.Needs.{needs}
 use Rattle.record.proofs.convert.convert.Statement.{statement}
 use Rattle.record.proofs.convert.convert.Tie as tie
 
-judge-requires : tie.Need-judge-requires
-judge-requires c κs = search needs
-
-enum-known-answer : tie.Need-enum-known-answer
-enum-known-answer c = search needs
-
-shared-slice-read-write : tie.Need-shared-slice-read-write
-shared-slice-read-write c = search needs
-
-shared-slice-read-other-form : tie.Need-shared-slice-read-other-form
-shared-slice-read-other-form c = search needs
-
-other-form-requires : tie.Need-other-form-requires
-other-form-requires c κs = search needs
-
-get-requires : tie.Need-get-requires
-get-requires c κs = search needs
-
-write-requires : tie.Need-write-requires
-write-requires c κs = search needs
-
-enum-known-answer-2 : tie.Need-enum-known-answer-2
-enum-known-answer-2 c = search needs
-
-same-length : tie.Need-same-length
-same-length c = search needs
-
 returns : tie.Need-returns
 unfolding movedOf
 returns c =
@@ -71,14 +44,14 @@ pub convert-spec : {M : Type 1} → statement M
 convert-spec =
     tie.close
     (tie.spec
-    judge-requires
-    enum-known-answer
-    shared-slice-read-write
-    shared-slice-read-other-form
-    other-form-requires
-    get-requires
-    write-requires
-    enum-known-answer-2
-    same-length
+    (λ c κs. search needs)
+    (λ c. search needs)
+    (λ c. search needs)
+    (λ c. search needs)
+    (λ c κs. search needs)
+    (λ c κs. search needs)
+    (λ c κs. search needs)
+    (λ c. search needs)
+    (λ c. search needs)
     returns
     returns-2)

@@ -12,9 +12,6 @@ pieces-good : (c : tie.Else1) →
     let s = c .before .before .before .before .args in Passes (badPieces (now (s .input)) (length (now (s .output))))
 pieces-good c = rw (c .before .both-of-size .ensures) at (c .if1 .left)
 
-both-of-size-requires : tie.Need-both-of-size-requires
-both-of-size-requires c κs = search needs
-
 returns : tie.Need-returns
 returns c =
     let s = c .before .before .before .before .args in
@@ -26,9 +23,6 @@ convert-requires c κs =
     let s = c .before .before .before .before .before .args in
     sizes (length (now (s .input))) (length (now (s .output))) (pieces-good (c .before))
 
-same-length : tie.Need-same-length
-same-length c = search needs
-
 returns-2 : tie.Need-returns-2
 returns-2 c =
     let d = c .before .before .before .before in
@@ -37,4 +31,4 @@ returns-2 c =
 
 pub convert-record-spec : {M : Type 1} → statement M
 convert-record-spec =
-    tie.close (tie.spec both-of-size-requires returns convert-requires same-length returns-2)
+    tie.close (tie.spec (λ c κs. search needs) returns convert-requires (λ c. search needs) returns-2)

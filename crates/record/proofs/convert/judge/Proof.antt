@@ -40,29 +40,8 @@ first-is c = toZ-ofZ {w = w32} (record { sfits = c .get2 .ok }) ∙ c .get2 .ens
 second-is : (c : tie.After-get3) → toZ w32 (ofZ w32 (c .get3 .result)) ≡ secondIn (input (passed c))
 second-is c = toZ-ofZ {w = w32} (record { sfits = c .get3 .ok }) ∙ c .get3 .ensures
 
-has-mark-requires : tie.Need-has-mark-requires
-has-mark-requires c κs = search needs
-
 returns : tie.Need-returns
 returns c = judged-9 (now (c .before .before .before .args .input)) (rw (c .before .has-mark .ensures) at (c .if1 .taken))
-
-shared-slice-read-kind : tie.Need-shared-slice-read-kind
-shared-slice-read-kind c = search needs
-
-shared-slice-read-form : tie.Need-shared-slice-read-form
-shared-slice-read-form c = search needs
-
-get-requires : tie.Need-get-requires
-get-requires c κs = search needs
-
-get-requires-2 : tie.Need-get-requires-2
-get-requires-2 c κs = search needs
-
-get-requires-3 : tie.Need-get-requires-3
-get-requires-3 c κs = search needs
-
-forward-requires : tie.Need-forward-requires
-forward-requires c κs = search needs
 
 returns-2 : tie.Need-returns-2
 returns-2 c =
@@ -71,9 +50,6 @@ returns-2 c =
     c .forward .ensures
     ∙ at-numbers (forwardOf (kindIn (input e))) (central-is (b .before .before)) (first-is (b .before)) (second-is b)
     ∙ judged-position (input e) (mark-good e) (c .before .if2 .taken)
-
-inverse-requires : tie.Need-inverse-requires
-inverse-requires c κs = search needs
 
 returns-3 : tie.Need-returns-3
 returns-3 c =
@@ -92,15 +68,15 @@ pub judge-spec : {M : Type 1} → statement M
 judge-spec =
     tie.close
     (tie.spec
-    has-mark-requires
+    (λ c κs. search needs)
     returns
-    shared-slice-read-kind
-    shared-slice-read-form
-    get-requires
-    get-requires-2
-    get-requires-3
-    forward-requires
+    (λ c. search needs)
+    (λ c. search needs)
+    (λ c κs. search needs)
+    (λ c κs. search needs)
+    (λ c κs. search needs)
+    (λ c κs. search needs)
     returns-2
-    inverse-requires
+    (λ c κs. search needs)
     returns-3
     returns-4)

@@ -24,33 +24,6 @@ holds c =
     (rw (toZ-ofZ (s .fits .first)) at (put2 .put2 .ensures .1))
     (rw (toZ-ofZ (s .fits .second)) at (c .put3 .ensures .1))
 
-array-read-bytes : tie.Need-array-read-bytes
-array-read-bytes c = search needs
-
-slice-write-bytes : tie.Need-slice-write-bytes
-slice-write-bytes c = search needs
-
-array-read-bytes-2 : tie.Need-array-read-bytes-2
-array-read-bytes-2 c = search needs
-
-slice-write-bytes-2 : tie.Need-slice-write-bytes-2
-slice-write-bytes-2 c = search needs
-
-slice-write-bytes-3 : tie.Need-slice-write-bytes-3
-slice-write-bytes-3 c = search needs
-
-slice-write-bytes-4 : tie.Need-slice-write-bytes-4
-slice-write-bytes-4 c = search needs
-
-put-requires : tie.Need-put-requires
-put-requires c κs = search needs
-
-put-requires-2 : tie.Need-put-requires-2
-put-requires-2 c κs = search needs
-
-put-requires-3 : tie.Need-put-requires-3
-put-requires-3 c κs = search needs
-
 same-length : tie.Need-same-length
 unfolding recordOf bytesOf
 same-length c = ap length (holds (c .before .before)) ∙ sym (start (c .before .before) .pre)
@@ -62,14 +35,14 @@ pub write-spec : {M : Type 1} → statement M
 write-spec =
     tie.close
     (tie.spec
-    array-read-bytes
-    slice-write-bytes
-    array-read-bytes-2
-    slice-write-bytes-2
-    slice-write-bytes-3
-    slice-write-bytes-4
-    put-requires
-    put-requires-2
-    put-requires-3
+    (λ c. search needs)
+    (λ c. search needs)
+    (λ c. search needs)
+    (λ c. search needs)
+    (λ c. search needs)
+    (λ c. search needs)
+    (λ c κs. search needs)
+    (λ c κs. search needs)
+    (λ c κs. search needs)
     same-length
     returns)

@@ -16,18 +16,6 @@ all-digits : (l l′ : List ℕ) (at count n : ℕ) → count ≡ length (decima
 unfolding putAt
 all-digits l l′ at count n e p = record { behind = ap (λ (k : ℕ). at + k) e; holds = p ∙ rw (e, last-digits n) }
 
-width-requires : tie.Need-width-requires
-width-requires c κs = search needs
-
-put-digits-requires : tie.Need-put-digits-requires
-put-digits-requires c κs = search needs
-
-add-result : tie.Need-add-result
-add-result c = search needs
-
-same-length : tie.Need-same-length
-same-length c = search needs
-
 returns : tie.Need-returns
 returns c =
     let put = c .before .before .put-digits in
@@ -36,4 +24,4 @@ returns c =
     all-digits (now (a .text)) (put .last .0) (a .at) (w .width .result) (a .n) (w .width .ensures) (put .ensures)
 
 pub put-decimal-spec : {M : Type 1} → statement M
-put-decimal-spec = tie.close (tie.spec width-requires put-digits-requires add-result same-length returns)
+put-decimal-spec = tie.close (tie.spec (λ c κs. search needs) (λ c κs. search needs) (λ c. search needs) (λ c. search needs) returns)

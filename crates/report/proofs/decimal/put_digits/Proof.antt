@@ -77,32 +77,14 @@ done text₀ at count n text zero rest s h =
 loop-holds : tie.Need-loop-holds Inv-loop μ-loop
 loop-holds c = record { passed = le-refl _; room = c .pre; size = refl; front = refl; behind = refl }
 
-sub-i : tie.Need-sub-i Inv-loop μ-loop
-sub-i c = search needs
-
-add-text : tie.Need-add-text Inv-loop μ-loop
-add-text c = search needs
-
-cast-text : tie.Need-cast-text Inv-loop μ-loop
-cast-text c = search needs
-
-add-text-2 : tie.Need-add-text-2 Inv-loop μ-loop
-add-text-2 c = search needs
-
 slice-write-text : tie.Need-slice-write-text Inv-loop μ-loop
 slice-write-text c = omega arith
-
-loop-less : tie.Need-loop-less Inv-loop μ-loop
-loop-less c = search needs
 
 loop-again : tie.Need-loop-again Inv-loop μ-loop
 loop-again c =
     let a = c .before .before .args in
     let l = c .before .loop in
     step (now (a .text)) (a .at) (a .count) (a .n) (l .text) (l .i) (l .rest) (l .inv) (c .loop-test .taken)
-
-same-length : tie.Need-same-length Inv-loop μ-loop
-same-length c = search needs
 
 returns : tie.Need-returns Inv-loop μ-loop
 returns c =
@@ -117,12 +99,12 @@ put-digits-spec =
     Inv-loop
     μ-loop
     loop-holds
-    sub-i
-    add-text
-    cast-text
-    add-text-2
+    (λ c. search needs)
+    (λ c. search needs)
+    (λ c. search needs)
+    (λ c. search needs)
     slice-write-text
-    loop-less
+    (λ c. search needs)
     loop-again
-    same-length
+    (λ c. search needs)
     returns)

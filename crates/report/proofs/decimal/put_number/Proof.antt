@@ -23,23 +23,11 @@ digits c =
     let b : n < 10 ^ 10 = search needs in
     decimal-le 10 n (omega arith) b
 
-split-requires : tie.Need-split-requires
-split-requires c κs = search needs
-
-cast-size : tie.Need-cast-size
-cast-size c = search needs
-
-put-byte-requires : tie.Need-put-byte-requires
-put-byte-requires c κs = search needs
-
 put-decimal-requires : tie.Need-put-decimal-requires
 put-decimal-requires c κs = let b = digits (c .before .before .before .before .before .before) in omega arith
 
 put-decimal-requires-2 : tie.Need-put-decimal-requires-2
 put-decimal-requires-2 c κs = let b = digits (c .before .before) in omega arith
-
-same-length : tie.Need-same-length
-same-length c = search needs
 
 returns : tie.Need-returns
 returns c =
@@ -51,9 +39,6 @@ returns c =
     let b = digits (test .before) in
     let h : a .at ≤ length (now (a .text)) = omega arith in
     (rw (text-below (a .z) (split .split .result) (parts split) (test .if1 .taken)) (put-twice h (sign .put-byte .ensures) (put .ensures)), omega arith)
-
-same-length-2 : tie.Need-same-length-2
-same-length-2 c = search needs
 
 returns-2 : tie.Need-returns-2
 returns-2 c =
@@ -68,12 +53,12 @@ pub put-number-spec : {M : Type 1} → statement M
 put-number-spec =
     tie.close
     (tie.spec
-    split-requires
-    cast-size
-    put-byte-requires
+    (λ c κs. search needs)
+    (λ c. search needs)
+    (λ c κs. search needs)
     put-decimal-requires
     put-decimal-requires-2
-    same-length
+    (λ c. search needs)
     returns
-    same-length-2
+    (λ c. search needs)
     returns-2)

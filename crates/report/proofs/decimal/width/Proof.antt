@@ -34,15 +34,6 @@ power-next (suc k) h =
 loop-holds : tie.Need-loop-holds Inv-loop μ-loop
 loop-holds c = record { is = refl; low = omega arith; some = omega arith; few = omega arith }
 
-mul-power : tie.Need-mul-power Inv-loop μ-loop
-mul-power c = search needs
-
-add-count : tie.Need-add-count Inv-loop μ-loop
-add-count c = search needs
-
-loop-less : tie.Need-loop-less Inv-loop μ-loop
-loop-less c = search needs
-
 loop-again : tie.Need-loop-again Inv-loop μ-loop
 loop-again c =
     let l = c .before .loop in
@@ -69,4 +60,4 @@ returns c =
     counted (c .before .before .args .n) (l .power) (l .count) (l .inv) (c .loop-test .left)
 
 pub width-spec : {M : Type 1} → statement M
-width-spec = tie.close (tie.spec Inv-loop μ-loop loop-holds mul-power add-count loop-less loop-again returns)
+width-spec = tie.close (tie.spec Inv-loop μ-loop loop-holds (λ c. search needs) (λ c. search needs) (λ c. search needs) loop-again returns)

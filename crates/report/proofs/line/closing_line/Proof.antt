@@ -9,12 +9,6 @@ use Rattle.report.proofs.line.closing_line.Tie as tie
 returns : tie.Need-returns
 returns c = too-short (lt-leb _ _ (c .if1 .taken))
 
-put-closing-requires : tie.Need-put-closing-requires
-put-closing-requires c κs = search needs
-
-same-length : tie.Need-same-length
-same-length c = search needs
-
 returns-2 : tie.Need-returns-2
 returns-2 c =
     let test = c .before .before .before .before in
@@ -22,4 +16,4 @@ returns-2 c =
     placed (le-leb _ _ (test .if1 .left)) (put .ensures .0) (omega arith)
 
 pub closing-line-spec : {M : Type 1} → statement M
-closing-line-spec = tie.close (tie.spec returns put-closing-requires same-length returns-2)
+closing-line-spec = tie.close (tie.spec returns (λ c κs. search needs) (λ c. search needs) returns-2)

@@ -70,19 +70,10 @@ after4 c =
     let p = c .put-decimal2 in
     behind (after3 (c .before .before .before .before)) 20 (p .ensures) (omega (arith, p .ensures .behind)) (p .kept .0)
 
-slice-aggregate-put-bytes : tie.Need-slice-aggregate-put-bytes
-slice-aggregate-put-bytes c = search needs
-
-put-bytes-requires : tie.Need-put-bytes-requires
-put-bytes-requires c κs = search needs
-
 put-decimal-requires : tie.Need-put-decimal-requires
 put-decimal-requires c κs =
     let p = c .before .before .before in
     omega (arith, short (start1 p))
-
-slice-aggregate-put-bytes-2 : tie.Need-slice-aggregate-put-bytes-2
-slice-aggregate-put-bytes-2 c = search needs
 
 put-bytes-requires-2 : tie.Need-put-bytes-requires-2
 put-bytes-requires-2 c κs =
@@ -99,9 +90,6 @@ put-byte-requires c κs =
     let p = c .before .before .before in
     omega (arith, after4 p)
 
-same-length : tie.Need-same-length
-same-length c = search needs
-
 returns : tie.Need-returns
 unfolding closingOf
 returns c =
@@ -114,12 +102,12 @@ pub put-closing-spec : {M : Type 1} → statement M
 put-closing-spec =
     tie.close
     (tie.spec
-    slice-aggregate-put-bytes
-    put-bytes-requires
+    (λ c. search needs)
+    (λ c κs. search needs)
     put-decimal-requires
-    slice-aggregate-put-bytes-2
+    (λ c. search needs)
     put-bytes-requires-2
     put-decimal-requires-2
     put-byte-requires
-    same-length
+    (λ c. search needs)
     returns)

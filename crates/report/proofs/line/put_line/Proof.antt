@@ -84,33 +84,6 @@ refusal2 c =
     let p = c .put-decimal in
     behind (refusal1 q) 3 (p .ensures) (omega (arith, p .ensures .behind)) (p .kept .0)
 
-enum-known-answer : tie.Need-enum-known-answer
-enum-known-answer c = search needs
-
-put-number-requires : tie.Need-put-number-requires
-put-number-requires c κs = search needs
-
-put-byte-requires : tie.Need-put-byte-requires
-put-byte-requires c κs = search needs
-
-put-number-requires-2 : tie.Need-put-number-requires-2
-put-number-requires-2 c κs = search needs
-
-put-byte-requires-2 : tie.Need-put-byte-requires-2
-put-byte-requires-2 c κs = search needs
-
-enum-known-answer-2 : tie.Need-enum-known-answer-2
-enum-known-answer-2 c = search needs
-
-slice-aggregate-put-bytes : tie.Need-slice-aggregate-put-bytes
-slice-aggregate-put-bytes c = search needs
-
-put-bytes-requires : tie.Need-put-bytes-requires
-put-bytes-requires c κs = search needs
-
-cast-put-decimal : tie.Need-cast-put-decimal
-cast-put-decimal c = search needs
-
 put-decimal-requires : tie.Need-put-decimal-requires
 put-decimal-requires c κs =
     let p = c .before .before .before in
@@ -121,9 +94,6 @@ put-byte-requires-3 c κs =
     let p = c .before .before .before in
     omega (arith, refusal2 p)
 
-same-length : tie.Need-same-length
-same-length c = search needs
-
 returns : tie.Need-returns
 unfolding lineOf
 returns c =
@@ -132,9 +102,6 @@ returns c =
     let n = q .before .before .before .before .before .before .before .before in
     let w = behind (pair3 q) 1 (p .put-byte2 .ensures) (omega (arith, p .put-byte2 .ensures .behind)) (p .put-byte2 .kept .0) in
     (rw (n .before .before .before .answer .given .1) (simp append-assoc at (w .put)), w .bound)
-
-same-length-2 : tie.Need-same-length-2
-same-length-2 c = search needs
 
 returns-2 : tie.Need-returns-2
 unfolding lineOf
@@ -149,18 +116,18 @@ pub put-line-spec : {M : Type 1} → statement M
 put-line-spec =
     tie.close
     (tie.spec
-    enum-known-answer
-    put-number-requires
-    put-byte-requires
-    put-number-requires-2
-    put-byte-requires-2
-    enum-known-answer-2
-    slice-aggregate-put-bytes
-    put-bytes-requires
-    cast-put-decimal
+    (λ c. search needs)
+    (λ c κs. search needs)
+    (λ c κs. search needs)
+    (λ c κs. search needs)
+    (λ c κs. search needs)
+    (λ c. search needs)
+    (λ c. search needs)
+    (λ c κs. search needs)
+    (λ c. search needs)
     put-decimal-requires
     put-byte-requires-3
-    same-length
+    (λ c. search needs)
     returns
-    same-length-2
+    (λ c. search needs)
     returns-2)

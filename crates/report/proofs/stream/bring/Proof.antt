@@ -74,21 +74,6 @@ module _ (l : List ℕ) (from to : ℕ) (h : to ≤ length l) where
 loop-holds : tie.Need-loop-holds Inv-loop μ-loop
 loop-holds c = record { source = omega arith; passed = c .pre .0; room = c .pre .1; size = refl; is = refl }
 
-slice-read-buffer : tie.Need-slice-read-buffer Inv-loop μ-loop
-slice-read-buffer c = search needs
-
-slice-write-buffer : tie.Need-slice-write-buffer Inv-loop μ-loop
-slice-write-buffer c = search needs
-
-add-i : tie.Need-add-i Inv-loop μ-loop
-add-i c = search needs
-
-add-j : tie.Need-add-j Inv-loop μ-loop
-add-j c = search needs
-
-loop-less : tie.Need-loop-less Inv-loop μ-loop
-loop-less c = search needs
-
 loop-again : tie.Need-loop-again Inv-loop μ-loop
 loop-again c =
     let a = c .before .before .before .args in
@@ -105,9 +90,6 @@ loop-again c =
           ∙ step (now (a .buffer)) (a .from) (a .to) (s .room) (l .i) b;
     }
 
-same-length : tie.Need-same-length Inv-loop μ-loop
-same-length c = search needs
-
 returns : tie.Need-returns Inv-loop μ-loop
 returns c =
     let a = c .before .before .args in
@@ -123,11 +105,11 @@ bring-spec =
     Inv-loop
     μ-loop
     loop-holds
-    slice-read-buffer
-    slice-write-buffer
-    add-i
-    add-j
-    loop-less
+    (λ c. search needs)
+    (λ c. search needs)
+    (λ c. search needs)
+    (λ c. search needs)
+    (λ c. search needs)
     loop-again
-    same-length
+    (λ c. search needs)
     returns)

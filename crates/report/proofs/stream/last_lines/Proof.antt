@@ -11,17 +11,8 @@ use Rattle.report.proofs.Streams.{end-none, end-some}
 use Rattle.report.proofs.stream.last_lines.Statement.{statement}
 use Rattle.report.proofs.stream.last_lines.Tie as tie
 
-add-if1 : tie.Need-add-if1
-add-if1 c = search needs
-
 returns : tie.Need-returns
 returns c = too-short (lt-leb _ _ (c .if1 .taken))
-
-put-closing-requires : tie.Need-put-closing-requires
-put-closing-requires c κs = search needs
-
-same-length : tie.Need-same-length
-same-length c = search needs
 
 returns-2 : tie.Need-returns-2
 returns-2 c =
@@ -31,21 +22,6 @@ returns-2 c =
     let a = test .before .before .before .before .args in
     rw (end-none (a .session) (now (a .tail)) (test .if2 .taken))
     (placed (le-leb _ _ room) (put .ensures .0) (omega arith))
-
-slice-aggregate-feed : tie.Need-slice-aggregate-feed
-slice-aggregate-feed c = search needs
-
-feed-requires : tie.Need-feed-requires
-feed-requires c κs = search needs
-
-put-line-requires : tie.Need-put-line-requires
-put-line-requires c κs = search needs
-
-put-closing-requires-2 : tie.Need-put-closing-requires-2
-put-closing-requires-2 c κs = search needs
-
-same-length-2 : tie.Need-same-length-2
-same-length-2 c = search needs
 
 returns-3 : tie.Need-returns-3
 returns-3 c =
@@ -64,14 +40,14 @@ pub last-lines-spec : {M : Type 1} → statement M
 last-lines-spec =
     tie.close
     (tie.spec
-    add-if1
+    (λ c. search needs)
     returns
-    put-closing-requires
-    same-length
+    (λ c κs. search needs)
+    (λ c. search needs)
     returns-2
-    slice-aggregate-feed
-    feed-requires
-    put-line-requires
-    put-closing-requires-2
-    same-length-2
+    (λ c. search needs)
+    (λ c κs. search needs)
+    (λ c κs. search needs)
+    (λ c κs. search needs)
+    (λ c. search needs)
     returns-3)

@@ -12,32 +12,8 @@ returns c =
     let a = c .before .before .before .args in
     no-bytes (a .session) (a .total) (now (a .buffer)) (now (a .text)) (c .if1 .taken)
 
-slice-reshare-prefix-convert-block : tie.Need-slice-reshare-prefix-convert-block
-slice-reshare-prefix-convert-block c = search needs
-
 slice-aggregate-convert-block : tie.Need-slice-aggregate-convert-block
 slice-aggregate-convert-block c = sym (length-take-le _ _ (c .before .if1 .left))
-
-convert-block-requires : tie.Need-convert-block-requires
-convert-block-requires c κs = search needs
-
-enum-told : tie.Need-enum-told
-enum-told c = search needs
-
-sub-bring : tie.Need-sub-bring
-sub-bring c = search needs
-
-bring-requires : tie.Need-bring-requires
-bring-requires c κs = search needs
-
-enum-told-2 : tie.Need-enum-told-2
-enum-told-2 c = search needs
-
-same-length : tie.Need-same-length
-same-length c = search needs
-
-same-length-2 : tie.Need-same-length-2
-same-length-2 c = search needs
 
 returns-2 : tie.Need-returns-2
 returns-2 c =
@@ -49,12 +25,6 @@ returns-2 c =
     all-taken (a .session) (a .total) (now (a .buffer)) (now (a .text)) (test .if1 .left) (block .convert-block .result)
     (block .convert-block .last .1 .1 .0) (block .convert-block .ensures) (told .enum-told .given .0 .0) (brought .last .0)
     (told .enum-told .given .1) (brought .ensures)
-
-same-length-3 : tie.Need-same-length-3
-same-length-3 c = search needs
-
-same-length-4 : tie.Need-same-length-4
-same-length-4 c = search needs
 
 returns-3 : tie.Need-returns-3
 returns-3 c =
@@ -69,16 +39,16 @@ take-in-spec =
     tie.close
     (tie.spec
     returns
-    slice-reshare-prefix-convert-block
+    (λ c. search needs)
     slice-aggregate-convert-block
-    convert-block-requires
-    enum-told
-    sub-bring
-    bring-requires
-    enum-told-2
-    same-length
-    same-length-2
+    (λ c κs. search needs)
+    (λ c. search needs)
+    (λ c. search needs)
+    (λ c κs. search needs)
+    (λ c. search needs)
+    (λ c. search needs)
+    (λ c. search needs)
     returns-2
-    same-length-3
-    same-length-4
+    (λ c. search needs)
+    (λ c. search needs)
     returns-3)

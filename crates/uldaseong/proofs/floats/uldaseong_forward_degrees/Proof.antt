@@ -6,12 +6,6 @@ use Rattle.uldaseong.specs.Status.{statusOf, pairAfter}
 use Rattle.uldaseong.proofs.floats.uldaseong_forward_degrees.Statement.{statement}
 use Rattle.uldaseong.proofs.floats.uldaseong_forward_degrees.Tie as tie
 
-forward-degrees-requires : tie.Need-forward-degrees-requires
-forward-degrees-requires c κs = search needs
-
-hand-out-requires : tie.Need-hand-out-requires
-hand-out-requires c κs = search needs
-
 returns : tie.Need-returns
 returns c =
     let s = c .before .before .before .args in
@@ -20,4 +14,4 @@ returns c =
     (h .0 ∙ ap statusOf e, h .1 ∙ ap (pairAfter (now (s .place))) e)
 
 pub uldaseong-forward-degrees-spec : {M : Type 1} → statement M
-uldaseong-forward-degrees-spec = tie.close (tie.spec forward-degrees-requires hand-out-requires returns)
+uldaseong-forward-degrees-spec = tie.close (tie.spec (λ c κs. search needs) (λ c κs. search needs) returns)

@@ -6,12 +6,6 @@ use Rattle.uldaseong.specs.Status.{statusOf, pairAfter}
 use Rattle.uldaseong.proofs.floats.uldaseong_inverse_degrees.Statement.{statement}
 use Rattle.uldaseong.proofs.floats.uldaseong_inverse_degrees.Tie as tie
 
-inverse-degrees-requires : tie.Need-inverse-degrees-requires
-inverse-degrees-requires c κs = search needs
-
-hand-out-requires : tie.Need-hand-out-requires
-hand-out-requires c κs = search needs
-
 returns : tie.Need-returns
 returns c =
     let s = c .before .before .before .args in
@@ -20,4 +14,4 @@ returns c =
     (h .0 ∙ ap statusOf e, h .1 ∙ ap (pairAfter (now (s .position))) e)
 
 pub uldaseong-inverse-degrees-spec : {M : Type 1} → statement M
-uldaseong-inverse-degrees-spec = tie.close (tie.spec inverse-degrees-requires hand-out-requires returns)
+uldaseong-inverse-degrees-spec = tie.close (tie.spec (λ c κs. search needs) (λ c κs. search needs) returns)

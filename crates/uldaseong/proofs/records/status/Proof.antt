@@ -7,12 +7,6 @@ use borrow.Author.Needs.{needs}
 use Rattle.uldaseong.proofs.records.status.Statement.{statement}
 use Rattle.uldaseong.proofs.records.status.Tie as tie
 
-enum-told : tie.Need-enum-told
-enum-told c = search needs
-
-enum-known-answer : tie.Need-enum-known-answer
-enum-known-answer c = search needs
-
 returns : tie.Need-returns
 returns c = sym (ap (λ (w : Answer). statusOf (meaning w)) (c .enum-told .given .1))
 
@@ -20,4 +14,4 @@ returns-2 : tie.Need-returns-2
 returns-2 c = sym (ap (λ (w : Answer). statusOf (meaning w)) (c .before .answer .given .1))
 
 pub status-spec : {M : Type 1} → statement M
-status-spec = tie.close (tie.spec enum-told enum-known-answer returns returns-2)
+status-spec = tie.close (tie.spec (λ c. search needs) (λ c. search needs) returns returns-2)

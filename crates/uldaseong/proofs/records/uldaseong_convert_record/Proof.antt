@@ -5,19 +5,10 @@ use borrow.Author.Needs.{needs}
 use Rattle.uldaseong.proofs.records.uldaseong_convert_record.Statement.{statement}
 use Rattle.uldaseong.proofs.records.uldaseong_convert_record.Tie as tie
 
-convert-record-requires : tie.Need-convert-record-requires
-convert-record-requires c κs = search needs
-
-status-requires : tie.Need-status-requires
-status-requires c κs = search needs
-
-same-length : tie.Need-same-length
-same-length c = search needs
-
 returns : tie.Need-returns
 returns c =
     let r = c .before .before .before .convert-record in
     (c .status .ensures ∙ ap statusOf (r .ensures .0), r .ensures .1)
 
 pub uldaseong-convert-record-spec : {M : Type 1} → statement M
-uldaseong-convert-record-spec = tie.close (tie.spec convert-record-requires status-requires same-length returns)
+uldaseong-convert-record-spec = tie.close (tie.spec (λ c κs. search needs) (λ c κs. search needs) (λ c. search needs) returns)

@@ -14,14 +14,8 @@ small c = omega arith
 small-2 : (c : tie.After-struct-known2) → c .before .before .args .self .size < 2 ^ 63
 small-2 c = omega arith
 
-cast-result : tie.Need-cast-result
-cast-result c = search needs
-
 sub-result : tie.Need-sub-result
 sub-result c = rw (turned w64 (small c)) (turned-fits w64 (small c))
-
-cast-result-2 : tie.Need-cast-result-2
-cast-result-2 c = search needs
 
 returns : tie.Need-returns
 returns c = rw (turned w64 (small c), c .before .if1 .taken) (toZ-ofZ (turned-fits w64 (small c)))
@@ -30,4 +24,4 @@ returns-2 : tie.Need-returns-2
 returns-2 c = rw (toZ-pos w64 (small-2 c), c .before .if1 .left)
 
 pub join-spec : {M : Type 1} → statement M
-join-spec = tie.close (tie.spec cast-result sub-result cast-result-2 returns returns-2)
+join-spec = tie.close (tie.spec (λ c. search needs) sub-result (λ c. search needs) returns returns-2)

@@ -10,12 +10,6 @@ use Rattle.degrees.specs.Writing.{degreesOf}
 use Rattle.degrees.proofs.writing.Degrees.from_centiseconds.Statement.{statement}
 use Rattle.degrees.proofs.writing.Degrees.from_centiseconds.Tie as tie
 
-int-to-float-east : tie.Need-int-to-float-east
-int-to-float-east c = search needs
-
-int-to-float-north : tie.Need-int-to-float-north
-int-to-float-north c = search needs
-
 -- the code's 360000.0
 literal-is : ofBits binary64 4689928365371555840 ≡ ofInt binary64 (pos 360000)
 unfolding ofBits ofInt round
@@ -31,4 +25,4 @@ returns c =
     (one (s .args .longitude) (s .fits .longitude), one (s .args .latitude) (s .fits .latitude))
 
 pub from-centiseconds-spec : {M : Type 1} → statement M
-from-centiseconds-spec = tie.close (tie.spec int-to-float-east int-to-float-north returns)
+from-centiseconds-spec = tie.close (tie.spec (λ c. search needs) (λ c. search needs) returns)

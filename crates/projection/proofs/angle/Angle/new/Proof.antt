@@ -6,11 +6,8 @@ use Rattle.whole.specs.Signed.{splitOf}
 use Rattle.projection.proofs.angle.Angle.new.Statement.{statement}
 use Rattle.projection.proofs.angle.Angle.new.Tie as tie
 
-split-requires : tie.Need-split-requires
-split-requires c κs = search needs
-
 returns : tie.Need-returns
 returns c = c .split .ensures ∙ ap splitOf (toZ-ofZ (c .before .fits .centiseconds))
 
 pub new-spec : {M : Type 1} → statement M
-new-spec = tie.close (tie.spec split-requires returns)
+new-spec = tie.close (tie.spec (λ c κs. search needs) returns)

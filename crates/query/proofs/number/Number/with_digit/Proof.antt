@@ -8,8 +8,5 @@ use Rattle.query.proofs.number.Number.with_digit.Tie as tie
 grown-requires : tie.Need-grown-requires
 grown-requires c κs = ⊎-elim (λ w. omega arith) (λ w. omega arith) (c .before .if1 .came)
 
-returns : tie.Need-returns
-returns c = search needs
-
 pub with-digit-spec : {M : Type 1} → statement M
-with-digit-spec = tie.close (tie.spec grown-requires returns)
+with-digit-spec = tie.close (tie.spec grown-requires (λ c. search needs))

@@ -26,18 +26,12 @@ pieces-good c = rw (c .before .both-of-size .ensures) at (c .if1 .left)
 not-full : (c : tie.Else2) → Passes (full (start2 c .args .self))
 not-full c = sym (c .before .is-full .ensures) ∙ c .if2 .left
 
-both-of-size-requires : tie.Need-both-of-size-requires
-both-of-size-requires c κs = search needs
-
 returns : tie.Need-returns
 unfolding sessionAfter
 returns c =
     let s = c .before .before .before .before .args in
     let e = fed-8 (s .self) (now (s .input)) (length (now (s .output))) (rw (c .before .both-of-size .ensures) at (c .if1 .taken)) in
     (e, (ap (sessionAfter (s .self)) e, kept (now (s .input)) (now (s .output)) 8 e))
-
-is-full-requires : tie.Need-is-full-requires
-is-full-requires c κs = search needs
 
 returns-2 : tie.Need-returns-2
 unfolding sessionAfter
@@ -60,9 +54,6 @@ with-requires c κs =
       subst Counts (sym (c .before .before .convert .ensures .0)) (judged-counts (now (s .input))),
     )
 
-same-length : tie.Need-same-length
-same-length c = search needs
-
 returns-3 : tie.Need-returns-3
 returns-3 c =
     let v = c .before .before .before in
@@ -76,11 +67,11 @@ pub feed-spec : {M : Type 1} → statement M
 feed-spec =
     tie.close
     (tie.spec
-    both-of-size-requires
+    (λ c κs. search needs)
     returns
-    is-full-requires
+    (λ c κs. search needs)
     returns-2
     convert-requires
     with-requires
-    same-length
+    (λ c. search needs)
     returns-3)

@@ -9,9 +9,6 @@ use borrow.Author.Needs.{needs}
 use Rattle.record.proofs.session.Session.is_full.Statement.{statement}
 use Rattle.record.proofs.session.Session.is_full.Tie as tie
 
-sub-result : tie.Need-sub-result
-sub-result c = search needs
-
 returns : tie.Need-returns
 returns c =
     let s = c .before .before .before .before .args .self in
@@ -23,4 +20,4 @@ returns-2 c =
     sym (le-leb cap (s .moved + s .refused) (omega arith))
 
 pub is-full-spec : {M : Type 1} → statement M
-is-full-spec = tie.close (tie.spec sub-result returns returns-2)
+is-full-spec = tie.close (tie.spec (λ c. search needs) returns returns-2)

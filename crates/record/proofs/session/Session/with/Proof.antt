@@ -9,18 +9,6 @@ use borrow.Author.Needs.{needs}
 use Rattle.record.proofs.session.Session.with.Statement.{statement}
 use Rattle.record.proofs.session.Session.with.Tie as tie
 
-enum-told : tie.Need-enum-told
-enum-told c = search needs
-
-add-t4 : tie.Need-add-t4
-add-t4 c = search needs
-
-enum-told-2 : tie.Need-enum-told-2
-enum-told-2 c = search needs
-
-add-t5 : tie.Need-add-t5
-add-t5 c = search needs
-
 returns : tie.Need-returns
 unfolding sessionAfter
 returns c =
@@ -36,4 +24,4 @@ returns-2 c =
     one-refused (s .args .self) n h ∙ sym (ap (λ (a : Answer). sessionAfter (s .args .self) (meaning a)) e)
 
 pub with-spec : {M : Type 1} → statement M
-with-spec = tie.close (tie.spec enum-told add-t4 enum-told-2 add-t5 returns returns-2)
+with-spec = tie.close (tie.spec (λ c. search needs) (λ c. search needs) (λ c. search needs) (λ c. search needs) returns returns-2)
