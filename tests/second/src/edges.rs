@@ -1,5 +1,6 @@
 //! Requests at the edges: the limits of each number and what lies on either side of them.
 use crate::map::{row_latitude, row_width, row_y, HALF_TURN, RIGHT_ANGLE};
+use crate::request::Request;
 use crate::requests::{back_and_there, place, position, there_and_back, width, DEGREE};
 use crate::table::{row_of, Row};
 
@@ -40,19 +41,19 @@ pub fn latitudes() -> Vec<i128> {
     signed(&[&[0, 1, 60 * DEGREE, NEAR_THE_POLE], &pole[..]].concat())
 }
 
-pub fn widths() -> Vec<String> {
-    let mut lines = Vec::new();
+pub fn widths() -> Vec<Request> {
+    let mut requests = Vec::new();
     for kind in 0..=11 {
         for degrees in -91..=91 {
-            lines.push(width(kind, degrees * DEGREE));
+            requests.push(width(kind, degrees * DEGREE));
         }
     }
     for kind in [1, 2, 9, 10].iter().chain(&ODD_KINDS) {
         for latitude in latitudes().iter().chain(&FAR) {
-            lines.push(width(*kind, *latitude));
+            requests.push(width(*kind, *latitude));
         }
     }
-    lines
+    requests
 }
 
 /// Longitudes at the edges of the map and of the central meridian's half turn.
@@ -65,24 +66,24 @@ pub fn longitudes(central: i128) -> Vec<i128> {
     all
 }
 
-pub fn positions() -> Vec<String> {
-    let mut lines = Vec::new();
+pub fn positions() -> Vec<Request> {
+    let mut requests = Vec::new();
     let mut latitude = latitudes().into_iter().cycle();
     for kind in 1..=10 {
         for central in CENTRALS {
             for longitude in longitudes(central) {
-                lines.extend(there_and_back(kind, central, longitude, 60 * DEGREE));
+                requests.extend(there_and_back(kind, central, longitude, 60 * DEGREE));
                 let other = latitude.next().expect("an endless list");
-                lines.push(position(kind, central, longitude, other));
+                requests.push(position(kind, central, longitude, other));
             }
         }
         for latitude in latitudes() {
             for longitude in [HALF_TURN, -HALF_TURN, 1] {
-                lines.extend(there_and_back(kind, 0, longitude, latitude));
+                requests.extend(there_and_back(kind, 0, longitude, latitude));
             }
         }
     }
-    lines
+    requests
 }
 
 /// y at the latitudes that matter, and one unit to either side.
@@ -98,54 +99,54 @@ pub fn breadths(row: &Row, y: i128) -> Vec<i128> {
     signed(&[0, 1, 2, w - 2, w - 1, w, w + 1, equator, equator + 1])
 }
 
-pub fn places() -> Vec<String> {
-    let mut lines = Vec::new();
+pub fn places() -> Vec<Request> {
+    let mut requests = Vec::new();
     let mut centrals = CENTRALS.into_iter().cycle();
     for kind in 1..=10 {
         let row = row_of(kind).expect("a kind of the table");
         for y in heights(&row) {
             for x in breadths(&row, y) {
                 let central = centrals.next().expect("an endless list");
-                lines.extend(back_and_there(kind, central, x, y));
+                requests.extend(back_and_there(kind, central, x, y));
             }
         }
     }
-    lines
+    requests
 }
 
 /// Good and bad numbers in every mixture, which shows the order of the refusals.
-fn mixtures() -> Vec<String> {
-    let mut lines = Vec::new();
+fn mixtures() -> Vec<Request> {
+    let mut requests = Vec::new();
     for kind in [1, 9, 0, 11] {
         for central in [0, -HALF_TURN - 1, LEAST] {
             for longitude in [0, HALF_TURN + 1, GREATEST] {
                 for latitude in [0, -RIGHT_ANGLE - 1, LEAST] {
-                    lines.push(position(kind, central, longitude, latitude));
+                    requests.push(position(kind, central, longitude, latitude));
                 }
             }
             for x in [0, -400_000_000, LEAST] {
                 for y in [0, 200_000_000, GREATEST] {
-                    lines.push(place(kind, central, x, y));
+                    requests.push(place(kind, central, x, y));
                 }
             }
         }
     }
-    lines
+    requests
 }
 
-pub fn refusals() -> Vec<String> {
-    let mut lines = mixtures();
+pub fn refusals() -> Vec<Request> {
+    let mut requests = mixtures();
     for far in FAR.iter().chain(&[HALF_TURN + 1, -HALF_TURN - 1]) {
         for kind in [1, 9] {
             for [central, first, second] in [[*far, 0, 0], [0, *far, 0], [0, 0, *far]] {
-                lines.push(position(kind, central, first, second));
-                lines.push(place(kind, central, first, second));
+                requests.push(position(kind, central, first, second));
+                requests.push(place(kind, central, first, second));
             }
         }
     }
     for kind in ODD_KINDS {
-        lines.push(position(kind, 1, 2, 3));
-        lines.push(place(kind, 1, 2, 3));
+        requests.push(position(kind, 1, 2, 3));
+        requests.push(place(kind, 1, 2, 3));
     }
-    lines
+    requests
 }

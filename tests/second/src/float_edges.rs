@@ -2,6 +2,7 @@
 //! side of them.
 use crate::float_requests::{back_and_there, place, position, there_and_back};
 use crate::map::{inverse, row_latitude, row_width, row_y, Answer, HALF_TURN, RIGHT_ANGLE};
+use crate::request::Request;
 use crate::table::{row_of, Row};
 
 /// NaNs, quiet and signalling, as bits: a float may lose them where it is worked with.
@@ -15,7 +16,7 @@ const NANS: [u64; 4] = [
 const INFINITE: f64 = f64::INFINITY;
 
 /// Floats with both signs.
-fn signed(sizes: &[f64]) -> Vec<f64> {
+pub fn signed(sizes: &[f64]) -> Vec<f64> {
     let turned = |x: &f64| f64::from_bits(x.to_bits() ^ 1 << 63);
     sizes.iter().flat_map(|x| [*x, turned(x)]).collect()
 }
@@ -26,7 +27,7 @@ fn about(x: f64) -> [f64; 3] {
 }
 
 /// Floats of every size, and those that are no numbers.
-fn sizes() -> Vec<f64> {
+pub fn sizes() -> Vec<f64> {
     let small = [0.0, 5e-324, 1e-300, 1e-9, 0.1, 0.5, 1.0, 89.9, 179.9, 180.1];
     let powers = [31, 32, 40, 52, 53, 62, 63, 64, 127, 128, 1022, 1023].map(|n| 2_f64.powi(n));
     let limits = [90.0, 180.0, f64::MIN_POSITIVE, 2_f64.powi(31)].map(about);
@@ -35,38 +36,43 @@ fn sizes() -> Vec<f64> {
     [&small[..], &powers, &limits.concat(), &last, &nans].concat()
 }
 
-/// Every size in each place of a request.
-pub fn anywhere() -> Vec<String> {
-    let mut lines = Vec::new();
-    let mut kinds = (1..=10).cycle();
-    for x in signed(&sizes()) {
-        let kind = kinds.next().expect("an endless list");
-        lines.push(position(kind, x, 12.5, 41.25));
-        lines.push(position(kind, -3.75, x, 41.25));
-        lines.push(position(kind, -3.75, 12.5, x));
-        lines.push(place(kind, x, 1e7, 2e7));
-        lines.push(place(kind, -3.75, x, 2e7));
-        lines.push(place(kind, -3.75, 1e7, x));
-    }
-    lines
+/// Every size in each place of a request, the kinds by turns.
+pub fn anywhere() -> Vec<Request> {
+    let sizes = signed(&sizes()).into_iter();
+    let with_kinds = (1..=10).cycle().zip(sizes);
+    with_kinds
+        .flat_map(|(kind, x)| in_each_place(kind, x))
+        .collect()
+}
+
+/// A float in each place of a request.
+pub fn in_each_place(kind: i128, x: f64) -> [Request; 6] {
+    [
+        position(kind, x, 12.5, 41.25),
+        position(kind, -3.75, x, 41.25),
+        position(kind, -3.75, 12.5, x),
+        place(kind, x, 1e7, 2e7),
+        place(kind, -3.75, x, 2e7),
+        place(kind, -3.75, 1e7, x),
+    ]
 }
 
 /// Good and bad floats in every mixture, which shows the order of the refusals.
-pub fn mixtures() -> Vec<String> {
+pub fn mixtures() -> Vec<Request> {
     let nan = f64::from_bits(NANS[1]);
     let centrals = [0.5, 180.0_f64.next_up(), -181.0, nan, -INFINITE];
     let firsts = [-0.5, -180.0_f64.next_up(), 5e8, INFINITE, -nan];
     let seconds = [0.25, 90.0_f64.next_up(), -2e8, nan, INFINITE];
-    let mut lines = Vec::new();
+    let mut requests = Vec::new();
     for kind in [1, 9, 0, 11] {
         for central in centrals {
             for (first, second) in pairs(&firsts, &seconds) {
-                lines.push(position(kind, central, first, second));
-                lines.push(place(kind, central, first, second));
+                requests.push(position(kind, central, first, second));
+                requests.push(place(kind, central, first, second));
             }
         }
     }
-    lines
+    requests
 }
 
 fn pairs(firsts: &[f64], seconds: &[f64]) -> Vec<(f64, f64)> {
@@ -75,39 +81,42 @@ fn pairs(firsts: &[f64], seconds: &[f64]) -> Vec<(f64, f64)> {
 }
 
 /// Longitudes at the edges of the map and of the central meridian's half turn, there and back.
-pub fn positions() -> Vec<String> {
+pub fn positions() -> Vec<Request> {
     let centrals = [0.0, 1e-9, 170.0, -179.999999, 180.0, -180.0];
     let edges = signed(&[&[0.0, 1e-6], &about(180.0)[..]].concat());
     let mut latitudes = signed(&[0.0, 5e-324, 1e-6, 60.0, 89.9999, 90.0])
         .into_iter()
         .cycle();
-    let mut lines = Vec::new();
+    let mut requests = Vec::new();
     for kind in 1..=10 {
         for (central, edge) in pairs(&centrals, &edges) {
             let latitude = latitudes.next().expect("an endless list");
-            lines.extend(there_and_back(kind, central, edge, latitude));
-            lines.push(position(kind, central, central + edge, 60.0));
+            requests.extend(there_and_back(kind, central, edge, latitude));
+            requests.push(position(kind, central, central + edge, 60.0));
         }
     }
-    lines
+    requests
 }
 
+/// Odd numbers whose halves of a centisecond are small, near 90 degrees, near 180 degrees or between.
+pub const SOME_ODD: [u16; 16] = [
+    1, 3, 5, 7, 65, 127, 129, 1023, 4097, 5759, 11517, 11519, 11521, 17281, 23037, 23039,
+];
+
 /// Halves of a centisecond, which are the odd numbers over 128, with the floats next to each.
-pub fn angle_halves() -> Vec<String> {
-    let odd = [
-        1, 3, 5, 7, 65, 127, 129, 1023, 4097, 5759, 11517, 11519, 11521, 17281, 23037, 23039,
-    ];
-    let halves = signed(&odd.map(|n| about(n as f64 / 128.0)).concat());
+pub fn angle_halves(odd: &[u16]) -> Vec<Request> {
+    let sizes = odd.iter().flat_map(|n| about(f64::from(*n) / 128.0));
+    let halves = signed(&sizes.collect::<Vec<_>>());
     let mut kinds = (1..=10).cycle();
-    let mut lines = Vec::new();
+    let mut requests = Vec::new();
     for half in halves {
         let kind = kinds.next().expect("an endless list");
-        lines.push(position(kind, half, 0.0, 0.0));
-        lines.push(position(kind, 0.0, half, 1.0));
-        lines.push(position(kind, 0.0, 1.0, half));
-        lines.push(place(kind, half, 0.0, 0.0));
+        requests.push(position(kind, half, 0.0, 0.0));
+        requests.push(position(kind, 0.0, half, 1.0));
+        requests.push(position(kind, 0.0, 1.0, half));
+        requests.push(place(kind, half, 0.0, 0.0));
     }
-    lines
+    requests
 }
 
 /// The whole number as it is, a little below and a little above a half more, and exactly a half more.
@@ -117,18 +126,18 @@ fn about_half(n: i128) -> Vec<f64> {
 }
 
 /// Places about the edge of the row at some latitudes, the pole among them, there and back.
-pub fn places() -> Vec<String> {
-    let mut lines = Vec::new();
+pub fn places() -> Vec<Request> {
+    let mut requests = Vec::new();
     for kind in 1..=10 {
         let row = row_of(kind).expect("a kind of the table");
         for latitude in [0, HALF_TURN / 3, RIGHT_ANGLE] {
             for (x, y) in edge_of_row(&row, latitude) {
-                lines.extend(back_and_there(kind, -12.5, x, y));
-                lines.push(place(kind, 12.5, -x, -y));
+                requests.extend(back_and_there(kind, -12.5, x, y));
+                requests.push(place(kind, 12.5, -x, -y));
             }
         }
     }
-    lines
+    requests
 }
 
 fn edge_of_row(row: &Row, latitude: i128) -> Vec<(f64, f64)> {
@@ -138,21 +147,21 @@ fn edge_of_row(row: &Row, latitude: i128) -> Vec<(f64, f64)> {
 }
 
 /// Halves of a map unit, with the floats next to each, where the numbers on either side of the half have different answers.
-pub fn place_halves() -> Vec<String> {
-    let mut lines = Vec::new();
+pub fn place_halves() -> Vec<Request> {
+    let mut requests = Vec::new();
     for kind in 1..=10 {
         for start in [0, 1, 1_000_003, 40_000_000] {
             let x = telling(start, |x| inverse(kind, 0, x, 70_000_000));
             for half in signed(&about(x as f64 + 0.5)) {
-                lines.push(place(kind, 0.0, half, 7e7));
+                requests.push(place(kind, 0.0, half, 7e7));
             }
             let y = telling(start, |y| inverse(kind, 0, 50_000_000, y));
             for half in signed(&about(y as f64 + 0.5)) {
-                lines.push(place(kind, 0.0, 5e7, half));
+                requests.push(place(kind, 0.0, 5e7, half));
             }
         }
     }
-    lines
+    requests
 }
 
 /// The first whole number from `start` on whose answer is another than the next number's.

@@ -1,28 +1,30 @@
 //! Requests on floats at random, from a seed.
 use crate::float_requests::{back_and_there, place, position, there_and_back};
 use crate::map::{row_latitude, row_width, row_y, RIGHT_ANGLE};
+use crate::request::Request;
 use crate::requests::next;
 use crate::table::row_of;
 
 /// Some requests of each sort for each round, the kinds by turns.
-pub fn lines(seed: u64, rounds: u64) -> Vec<String> {
+pub fn requests(seed: u64, rounds: u64) -> impl Iterator<Item = Request> {
     let mut chance = Chance(seed);
-    let mut lines = Vec::new();
-    for i in 0..rounds {
-        let kind = 1 + i128::from(i % 10);
-        lines.extend(chance.position(kind));
-        lines.extend(chance.place(kind));
-        lines.extend(chance.small(kind));
-        lines.extend(chance.near_halves(kind));
-        lines.extend(chance.patterns(kind));
-    }
-    lines
+    (0..rounds).flat_map(move |i| chance.round(1 + i128::from(i % 10)))
 }
 
-struct Chance(u64);
+/// The state of a generator.
+pub struct Chance(pub u64);
 
 impl Chance {
-    fn bits(&mut self) -> u64 {
+    fn round(&mut self, kind: i128) -> Vec<Request> {
+        let mut requests = self.position(kind);
+        requests.extend(self.place(kind));
+        requests.extend(self.small(kind));
+        requests.extend(self.near_halves(kind));
+        requests.extend(self.patterns(kind));
+        requests
+    }
+
+    pub fn bits(&mut self) -> u64 {
         next(&mut self.0)
     }
 
@@ -32,37 +34,37 @@ impl Chance {
     }
 
     /// A float from -limit to limit.
-    fn within(&mut self, limit: f64) -> f64 {
+    pub fn within(&mut self, limit: f64) -> f64 {
         let part = (self.bits() >> 11) as f64 / (1u64 << 53) as f64;
         limit * (2.0 * part - 1.0)
     }
 
     /// A few floats on, either way.
-    fn nudged(&mut self, x: f64) -> f64 {
+    pub fn nudged(&mut self, x: f64) -> f64 {
         let steps = self.bits() % 7;
         f64::from_bits(x.to_bits() + steps - 3)
     }
 
-    fn position(&mut self, kind: i128) -> Vec<String> {
+    fn position(&mut self, kind: i128) -> Vec<Request> {
         let [central, longitude, latitude] = [180.0, 180.0, 90.0].map(|limit| self.within(limit));
         there_and_back(kind, central, longitude, latitude)
     }
 
     /// A place inside its row, and one that may only be inside the Equator's.
-    fn place(&mut self, kind: i128) -> Vec<String> {
+    fn place(&mut self, kind: i128) -> Vec<Request> {
         let row = row_of(kind).expect("a kind of the table");
         let central = self.within(180.0);
         let y = self.within(row_y(&row, RIGHT_ANGLE) as f64);
         let w = row_width(&row, row_latitude(&row, y.round() as i128).abs());
         let x = self.within(w as f64);
-        let mut lines = back_and_there(kind, central, x, y);
+        let mut requests = back_and_there(kind, central, x, y);
         let x = self.within(row_width(&row, 0) as f64);
-        lines.push(place(kind, central, x, y));
-        lines
+        requests.push(place(kind, central, x, y));
+        requests
     }
 
     /// A position near to the central meridian and to the Equator, by every power of two down to 2^-40.
-    fn small(&mut self, kind: i128) -> Vec<String> {
+    fn small(&mut self, kind: i128) -> Vec<Request> {
         let [central, longitude, latitude] = [(); 3].map(|_| {
             let power = (self.bits() % 48) as i32 - 40;
             self.within(2.0_f64.powi(power)).clamp(-90.0, 90.0)
@@ -71,7 +73,7 @@ impl Chance {
     }
 
     /// At most a few floats from a half of a centisecond, which is an odd number over 128, or of a map unit.
-    fn near_halves(&mut self, kind: i128) -> Vec<String> {
+    fn near_halves(&mut self, kind: i128) -> Vec<Request> {
         let [central, longitude, latitude] = [23040.0, 23040.0, 11520.0].map(|limit| {
             let odd = 2.0 * (self.within(limit - 2.0) / 2.0).floor() + 1.0;
             self.nudged(odd / 128.0)
@@ -87,12 +89,17 @@ impl Chance {
     }
 
     /// Any bits in one of the places, or in all three.
-    fn patterns(&mut self, kind: i128) -> Vec<String> {
+    fn patterns(&mut self, kind: i128) -> [Request; 2] {
         let any = [(); 3].map(|_| self.float());
+        self.mixed(kind, any)
+    }
+
+    /// One of these floats between good ones, or all three.
+    pub fn mixed(&mut self, kind: i128, any: [f64; 3]) -> [Request; 2] {
         let good = [180.0, 180.0, 90.0].map(|limit| self.within(limit));
         let at = (self.bits() % 4) as usize;
         let mixed = [0, 1, 2].map(|i| if at == 3 || i == at { any[i] } else { good[i] });
-        vec![
+        [
             position(kind, mixed[0], mixed[1], mixed[2]),
             place(kind, mixed[0], mixed[1], mixed[2]),
         ]

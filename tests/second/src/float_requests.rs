@@ -1,53 +1,53 @@
 //! Requests on floats: every edge that document 01 names, and some thousand at random from a fixed seed.
-use crate::bits;
 use crate::float::{forward, inverse};
 use crate::float_edges;
 use crate::float_random;
 use crate::map::Answer;
+use crate::request::Request;
+use crate::requests::texts;
 
 pub fn all() -> Vec<String> {
-    let mut lines = float_edges::anywhere();
-    lines.extend(float_edges::mixtures());
-    lines.extend(float_edges::positions());
-    lines.extend(float_edges::angle_halves());
-    lines.extend(float_edges::places());
-    lines.extend(float_edges::place_halves());
-    lines.extend(float_random::lines(20_260_102, 700));
-    lines.extend(document());
+    let mut requests = float_edges::anywhere();
+    requests.extend(float_edges::mixtures());
+    requests.extend(float_edges::positions());
+    requests.extend(float_edges::angle_halves(&float_edges::SOME_ODD));
+    requests.extend(float_edges::places());
+    requests.extend(float_edges::place_halves());
+    requests.extend(float_random::requests(20_260_102, 700));
+    requests.extend(document());
+    let mut lines = texts(requests);
     lines.extend(ODD.map(String::from));
     lines
 }
 
-pub fn position(kind: i128, central: f64, longitude: f64, latitude: f64) -> String {
-    let [central, longitude, latitude] = [central, longitude, latitude].map(bits);
-    format!("F {kind} {central} {longitude} {latitude}")
+pub fn position(kind: i128, central: f64, longitude: f64, latitude: f64) -> Request {
+    Request::FloatPosition(kind, [central, longitude, latitude])
 }
 
-pub fn place(kind: i128, central: f64, x: f64, y: f64) -> String {
-    let [central, x, y] = [central, x, y].map(bits);
-    format!("I {kind} {central} {x} {y}")
+pub fn place(kind: i128, central: f64, x: f64, y: f64) -> Request {
+    Request::FloatPlace(kind, [central, x, y])
 }
 
 /// A position, and the way back from its place, exactly as it was answered, if it has one.
-pub fn there_and_back(kind: i128, central: f64, longitude: f64, latitude: f64) -> Vec<String> {
-    let mut lines = vec![position(kind, central, longitude, latitude)];
+pub fn there_and_back(kind: i128, central: f64, longitude: f64, latitude: f64) -> Vec<Request> {
+    let mut requests = vec![position(kind, central, longitude, latitude)];
     if let Answer::Floats(x, y) = forward(kind, central, longitude, latitude) {
-        lines.push(place(kind, central, x, y));
+        requests.push(place(kind, central, x, y));
     }
-    lines
+    requests
 }
 
 /// A place, and the way on from its position, exactly as it was answered, if it has one.
-pub fn back_and_there(kind: i128, central: f64, x: f64, y: f64) -> Vec<String> {
-    let mut lines = vec![place(kind, central, x, y)];
+pub fn back_and_there(kind: i128, central: f64, x: f64, y: f64) -> Vec<Request> {
+    let mut requests = vec![place(kind, central, x, y)];
     if let Answer::Floats(longitude, latitude) = inverse(kind, central, x, y) {
-        lines.push(position(kind, central, longitude, latitude));
+        requests.push(position(kind, central, longitude, latitude));
     }
-    lines
+    requests
 }
 
 /// The cases of document 01 that floats can ask for.
-fn document() -> Vec<String> {
+fn document() -> Vec<Request> {
     vec![
         // P1, P2 and P11 in degrees
         position(1, 0.0, 90.0, 45.0),

@@ -56,7 +56,7 @@ pub fn row_latitude(row: &Row, y: i128) -> i128 {
 }
 
 /// A difference or a sum of two longitudes, a whole turn nearer to 0 if it is more than a half turn away.
-fn wrapped(angle: i128) -> i128 {
+pub fn wrapped(angle: i128) -> i128 {
     if angle > HALF_TURN {
         angle - 2 * HALF_TURN
     } else if angle < -HALF_TURN {

@@ -99,6 +99,6 @@ fn number_bytes(number: i32) -> [u8; 4] {
 }
 
 /// It stops where 32 bits do not hold the number.
-fn narrow(number: i128) -> i32 {
+pub fn narrow(number: i128) -> i32 {
     i32::try_from(number).expect("a number of 32 bits")
 }

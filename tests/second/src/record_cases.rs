@@ -1,9 +1,9 @@
 //! Records at the edges: each byte of mark, kind and form, the limits of each number, and refusals beside each other.
 use crate::edges::{breadths, heights, latitudes, longitudes, signed, GREATEST, LEAST};
 use crate::map::{HALF_TURN, RIGHT_ANGLE};
-use crate::numbers;
 use crate::record::{record, Record, DOCUMENT, MARK, PLACE, POSITION};
 use crate::record_random::Chance;
+use crate::request::Request;
 use crate::requests::{self, DEGREE};
 use crate::table::row_of;
 
@@ -39,15 +39,12 @@ fn handed_on(first: Record) -> Vec<Record> {
 fn document() -> Vec<Record> {
     let mut records = handed_on(Record::read(&DOCUMENT));
     for line in requests::DOCUMENT {
-        let form = if line.starts_with('f') {
-            POSITION
-        } else {
-            PLACE
+        let first = match Request::read(line) {
+            Some(Request::Position(kind, numbers)) => record(POSITION, kind, numbers),
+            Some(Request::Place(kind, numbers)) => record(PLACE, kind, numbers),
+            _ => panic!("a request for a record: {line}"),
         };
-        let Some(&[kind, central, first, second]) = numbers(line).as_deref() else {
-            panic!("a request with four numbers: {line}")
-        };
-        records.extend(handed_on(record(form, kind, [central, first, second])));
+        records.extend(handed_on(first));
     }
     records
 }
@@ -56,7 +53,7 @@ fn document() -> Vec<Record> {
 const FAULTS: usize = 6;
 
 /// A record with the faults that the binary digits of `which` name, the first in the order of judging by the lowest.
-fn faulty(form: u8, kind: i128, which: usize) -> Record {
+pub fn faulty(form: u8, kind: i128, which: usize) -> Record {
     let has = |fault: usize| which >> fault & 1 == 1;
     let number = |fault: usize, good, bad| if has(fault) { bad } else { good };
     let central = number(3, 10 * DEGREE, -HALF_TURN - 1);
@@ -108,15 +105,20 @@ fn mixtures() -> Vec<Record> {
 fn first_bytes() -> Vec<Record> {
     let mut records = Vec::new();
     for form in [POSITION, PLACE] {
-        for at in 0..4 {
-            for byte in 0..=255 {
-                let mut bytes = record(form, 3, [DEGREE, 2 * DEGREE, 3 * DEGREE]).bytes();
-                bytes[at] = byte;
-                records.push(Record::read(&bytes.try_into().expect("a record")));
-            }
-        }
+        let good = record(form, 3, [DEGREE, 2 * DEGREE, 3 * DEGREE]);
+        records.extend((0..4).flat_map(|at| every_byte(&good, at)));
     }
     records
+}
+
+/// A record with every byte in one place.
+pub fn every_byte(good: &Record, at: usize) -> Vec<Record> {
+    let with = |byte| {
+        let mut bytes = good.bytes();
+        bytes[at] = byte;
+        Record::read(&bytes.try_into().expect("a record"))
+    };
+    (0..=255).map(with).collect()
 }
 
 /// The ends of 32 bits and the first numbers past the ranges, in each place and in all three, for every kind in both forms.

@@ -1,7 +1,7 @@
 //! Records at random, from a seed: good ones, moved ones, ones near to a limit and damaged ones.
 use crate::map::{row_latitude, row_width, row_y, HALF_TURN, RIGHT_ANGLE};
 use crate::record::{record, Record, LENGTH, PLACE, POSITION};
-use crate::requests::{next, within};
+use crate::requests::{next, seeded, within};
 use crate::table::{row_of, Row};
 use std::io::{self, BufWriter, Write};
 
@@ -24,12 +24,8 @@ pub struct Chance {
 }
 
 impl Chance {
-    /// Every seed has numbers of its own: 0 alone would stay 0, and small seeds are much alike at first.
     pub fn new(seed: u64) -> Chance {
-        let mut state = seed ^ 0x9e37_79b9_7f4a_7c15;
-        for _ in 0..20 {
-            next(&mut state);
-        }
+        let state = seeded(seed);
         let moved = record(POSITION, 1, [0; 3]);
         Chance { state, moved }
     }
@@ -53,7 +49,7 @@ impl Chance {
         drawn
     }
 
-    fn below(&mut self, limit: u64) -> u64 {
+    pub fn below(&mut self, limit: u64) -> u64 {
         // the low digits of a step are alike from one step to the next
         (next(&mut self.state) >> 20) % limit
     }

@@ -3,80 +3,88 @@ use crate::edges;
 use crate::float_requests;
 use crate::map::{forward, inverse, row_latitude, row_width, row_y, Answer};
 use crate::map::{HALF_TURN, RIGHT_ANGLE};
+use crate::request::Request;
 use crate::table::row_of;
 
 pub const DEGREE: i128 = 60 * 60 * 100;
 
 pub fn all() -> String {
-    let mut lines = edges::widths();
-    lines.extend(edges::positions());
-    lines.extend(edges::places());
-    lines.extend(edges::refusals());
-    lines.extend(neighbours());
-    lines.extend(random());
+    let mut requests = edges::widths();
+    requests.extend(edges::positions());
+    requests.extend(edges::places());
+    requests.extend(edges::refusals());
+    requests.extend(neighbours());
+    requests.extend(random());
+    let mut lines = texts(requests);
     lines.extend(DOCUMENT.map(String::from));
     lines.extend(ODD.map(String::from));
     lines.extend(float_requests::all());
     // the last line has no end of its own
-    lines.push(width(2, 72 * DEGREE));
+    lines.push(width(2, 72 * DEGREE).to_string());
     lines.join("\n")
 }
 
-pub fn width(kind: i128, latitude: i128) -> String {
-    format!("w {kind} {latitude}")
+/// The lines of some requests.
+pub fn texts(requests: impl IntoIterator<Item = Request>) -> Vec<String> {
+    let texts = requests.into_iter().map(|request| request.to_string());
+    texts.collect()
 }
 
-pub fn position(kind: i128, central: i128, longitude: i128, latitude: i128) -> String {
-    format!("f {kind} {central} {longitude} {latitude}")
+pub fn width(kind: i128, latitude: i128) -> Request {
+    Request::Width(kind, latitude)
 }
 
-pub fn place(kind: i128, central: i128, x: i128, y: i128) -> String {
-    format!("i {kind} {central} {x} {y}")
+pub fn position(kind: i128, central: i128, longitude: i128, latitude: i128) -> Request {
+    Request::Position(kind, [central, longitude, latitude])
+}
+
+pub fn place(kind: i128, central: i128, x: i128, y: i128) -> Request {
+    Request::Place(kind, [central, x, y])
 }
 
 /// A position, and the way back from its place if it has one.
-pub fn there_and_back(kind: i128, central: i128, longitude: i128, latitude: i128) -> Vec<String> {
-    let mut lines = vec![position(kind, central, longitude, latitude)];
+pub fn there_and_back(kind: i128, central: i128, longitude: i128, latitude: i128) -> Vec<Request> {
+    let mut requests = vec![position(kind, central, longitude, latitude)];
     if let Answer::Pair(x, y) = forward(kind, central, longitude, latitude) {
-        lines.push(place(kind, central, x, y));
+        requests.push(place(kind, central, x, y));
     }
-    lines
+    requests
 }
 
 /// A place, and the way on from its position if it has one.
-pub fn back_and_there(kind: i128, central: i128, x: i128, y: i128) -> Vec<String> {
-    let mut lines = vec![place(kind, central, x, y)];
+pub fn back_and_there(kind: i128, central: i128, x: i128, y: i128) -> Vec<Request> {
+    let mut requests = vec![place(kind, central, x, y)];
     if let Answer::Pair(longitude, latitude) = inverse(kind, central, x, y) {
-        lines.push(position(kind, central, longitude, latitude));
+        requests.push(position(kind, central, longitude, latitude));
     }
-    lines
+    requests
 }
 
 /// Neighbouring meridians of kind 2: apart at 72 degrees, some of them in one place at 89.
-fn neighbours() -> Vec<String> {
-    let mut lines = Vec::new();
+fn neighbours() -> Vec<Request> {
+    let mut requests = Vec::new();
     for latitude in [72 * DEGREE, 89 * DEGREE] {
         for first in [-20, 45 * DEGREE, HALF_TURN - 40] {
             for longitude in first..=first + 40 {
-                lines.extend(there_and_back(2, 0, longitude, latitude));
+                requests.extend(there_and_back(2, 0, longitude, latitude));
             }
         }
     }
-    lines
+    requests
 }
 
-fn random() -> Vec<String> {
-    let mut lines = Vec::new();
+fn random() -> Vec<Request> {
+    let mut requests = Vec::new();
     let mut state = 20_260_101;
     for i in 0..2000 {
-        lines.push(width(1 + i % 10, within(&mut state, RIGHT_ANGLE)));
+        requests.push(width(1 + i % 10, within(&mut state, RIGHT_ANGLE)));
     }
     for i in 0..1500 {
         let kind = 1 + i % 10;
         let central = within(&mut state, HALF_TURN);
         let longitude = within(&mut state, HALF_TURN);
         let latitude = within(&mut state, RIGHT_ANGLE);
-        lines.extend(there_and_back(kind, central, longitude, latitude));
+        requests.extend(there_and_back(kind, central, longitude, latitude));
     }
     for i in 0..1500 {
         let kind = 1 + i % 10;
@@ -84,12 +92,12 @@ fn random() -> Vec<String> {
         let central = within(&mut state, HALF_TURN);
         let y = within(&mut state, row_y(&row, RIGHT_ANGLE));
         let w = row_width(&row, row_latitude(&row, y));
-        lines.extend(back_and_there(kind, central, within(&mut state, w), y));
+        requests.extend(back_and_there(kind, central, within(&mut state, w), y));
         // most of these are inside, some are only inside the Equator's width
         let x = within(&mut state, row_width(&row, 0));
-        lines.push(place(kind, central, x, y));
+        requests.push(place(kind, central, x, y));
     }
-    lines
+    requests
 }
 
 /// The cases of document 01 that numbers can ask for.
@@ -160,6 +168,16 @@ const ODD: [&str; 31] = [
 /// A number from -limit to limit.
 pub fn within(state: &mut u64, limit: i128) -> i128 {
     next(state) as i128 % (2 * limit + 1) - limit
+}
+
+/// The state that a seed begins with. Every seed has numbers of its own: 0 alone would stay 0, and small seeds are much
+/// alike at first.
+pub fn seeded(seed: u64) -> u64 {
+    let mut state = seed ^ 0x9e37_79b9_7f4a_7c15;
+    for _ in 0..20 {
+        next(&mut state);
+    }
+    state
 }
 
 /// A step of xorshift.

@@ -3,7 +3,7 @@ use crate::record::{Record, LENGTH};
 use std::io::{self, BufReader, BufWriter, Read, Write};
 
 /// A session with this many records counted is full.
-const FULL: u128 = 1_000_000_000;
+pub const FULL: u128 = 1_000_000_000;
 
 /// Both counts are 0 when it is opened.
 #[derive(Default)]

@@ -1,0 +1,105 @@
+//! What is lent to a call on a record: a session's counts, the input and the output.
+use crate::part::Part;
+use std::fmt;
+
+/// The longest piece.
+pub const LONGEST: usize = 40;
+
+/// A piece of bytes at some place of its own memory, with at least eight bytes before it and behind it.
+#[derive(Clone, PartialEq)]
+pub struct Piece {
+    memory: [u8; 64],
+    at: usize,
+    length: usize,
+}
+
+impl Piece {
+    /// Any bytes at any place.
+    fn any(part: &mut Part, length: usize) -> Piece {
+        assert!(length <= LONGEST, "a piece of {length} bytes");
+        let mut memory = [0; 64];
+        for word in memory.chunks_mut(8) {
+            word.copy_from_slice(&part.word().to_le_bytes());
+        }
+        let at = 8 + (part.word() >> 20) as usize % 8;
+        Piece { memory, at, length }
+    }
+
+    pub fn bytes(&self) -> &[u8] {
+        &self.memory[self.at..self.at + self.length]
+    }
+
+    /// Writes over the whole piece.
+    pub fn put(&mut self, bytes: &[u8]) {
+        self.memory[self.at..self.at + self.length].copy_from_slice(bytes);
+    }
+
+    fn lend(&mut self) -> (*mut u8, usize) {
+        (self.memory.as_mut_ptr().wrapping_add(self.at), self.length)
+    }
+}
+
+/// The memory in hexadecimal, with the piece between two bars.
+impl fmt::Display for Piece {
+    fn fmt(&self, text: &mut fmt::Formatter) -> fmt::Result {
+        let (before, rest) = self.memory.split_at(self.at);
+        let (piece, behind) = rest.split_at(self.length);
+        write!(text, "{}|{}|{}", hex(before), hex(piece), hex(behind))
+    }
+}
+
+fn hex(bytes: &[u8]) -> String {
+    bytes.iter().map(|byte| format!("{byte:02x}")).collect()
+}
+
+/// The two counts stand between two words that no call is to touch.
+#[derive(Clone, PartialEq)]
+pub struct Lent {
+    pub counts: [u64; 4],
+    pub input: Piece,
+    pub output: Piece,
+}
+
+impl Lent {
+    pub fn new(part: &mut Part, counts: [u64; 2], bytes: &[u8], room: usize) -> Lent {
+        let counts = [part.word(), counts[0], counts[1], part.word()];
+        let mut input = Piece::any(part, bytes.len());
+        input.put(bytes);
+        let output = Piece::any(part, room);
+        Lent {
+            counts,
+            input,
+            output,
+        }
+    }
+
+    /// The input and the output, each by its first byte and its length.
+    pub fn pieces(&mut self) -> [(*mut u8, usize); 2] {
+        [self.input.lend(), self.output.lend()]
+    }
+
+    /// The text of what is another than there: counts, input or output.
+    pub fn unlike(&self, other: &Lent) -> String {
+        let [before, moved, refused, behind] = self.counts;
+        let counts = format!(" counts {before}|{moved} {refused}|{behind}");
+        let texts = [
+            (self.counts != other.counts).then_some(counts),
+            (self.input != other.input).then(|| format!(" input {}", self.input)),
+            (self.output != other.output).then(|| format!(" output {}", self.output)),
+        ];
+        texts.into_iter().flatten().collect()
+    }
+}
+
+/// What a call is handed.
+impl fmt::Display for Lent {
+    fn fmt(&self, text: &mut fmt::Formatter) -> fmt::Result {
+        let [_, moved, refused, _] = self.counts;
+        let input = hex(self.input.bytes());
+        let room = self.output.length;
+        write!(
+            text,
+            "counts {moved} {refused}, input {input}, output of {room} bytes"
+        )
+    }
+}

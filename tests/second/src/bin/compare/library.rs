@@ -1,0 +1,71 @@
+//! The functions of include/uldaseong.h, each made safe to call: a pointer is to borrowed memory, as long as the function may
+//! take it to be. What is lent lies inside more memory of the comparison's own, so that a write out of place is seen.
+use crate::lent::Lent;
+
+extern "C" {
+    fn uldaseong_forward(
+        kind: u8,
+        central: i32,
+        longitude: i32,
+        latitude: i32,
+        place: *mut i32,
+    ) -> u8;
+    fn uldaseong_inverse(kind: u8, central: i32, x: i32, y: i32, position: *mut i32) -> u8;
+    fn uldaseong_forward_degrees(
+        kind: u8,
+        central: f64,
+        longitude: f64,
+        latitude: f64,
+        place: *mut f64,
+    ) -> u8;
+    fn uldaseong_inverse_degrees(kind: u8, central: f64, x: f64, y: f64, position: *mut f64) -> u8;
+    fn uldaseong_convert_record(
+        input: *const u8,
+        input_length: usize,
+        output: *mut u8,
+        output_length: usize,
+    ) -> u8;
+    fn uldaseong_feed(
+        counts: *mut u64,
+        input: *const u8,
+        input_length: usize,
+        output: *mut u8,
+        output_length: usize,
+    ) -> u8;
+}
+
+/// The two words between the first and the last of four.
+fn middle<T>(four: &mut [T; 4]) -> *mut T {
+    four.as_mut_ptr().wrapping_add(1)
+}
+
+pub fn forward(kind: u8, numbers: [i32; 3], lent: &mut [i32; 4]) -> u8 {
+    let [central, longitude, latitude] = numbers;
+    unsafe { uldaseong_forward(kind, central, longitude, latitude, middle(lent)) }
+}
+
+pub fn inverse(kind: u8, numbers: [i32; 3], lent: &mut [i32; 4]) -> u8 {
+    let [central, x, y] = numbers;
+    unsafe { uldaseong_inverse(kind, central, x, y, middle(lent)) }
+}
+
+pub fn forward_degrees(kind: u8, floats: [f64; 3], lent: &mut [f64; 4]) -> u8 {
+    let [central, longitude, latitude] = floats;
+    unsafe { uldaseong_forward_degrees(kind, central, longitude, latitude, middle(lent)) }
+}
+
+pub fn inverse_degrees(kind: u8, floats: [f64; 3], lent: &mut [f64; 4]) -> u8 {
+    let [central, x, y] = floats;
+    unsafe { uldaseong_inverse_degrees(kind, central, x, y, middle(lent)) }
+}
+
+pub fn convert_record(lent: &mut Lent) -> u8 {
+    let [(input, input_length), (output, output_length)] = lent.pieces();
+    unsafe { uldaseong_convert_record(input, input_length, output, output_length) }
+}
+
+pub fn feed(lent: &mut Lent) -> u8 {
+    let counts = middle(&mut lent.counts);
+    let [(input, input_length), (output, output_length)] = lent.pieces();
+    unsafe { uldaseong_feed(counts, input, input_length, output, output_length) }
+}

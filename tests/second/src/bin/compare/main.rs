@@ -1,0 +1,73 @@
+//! Compares the library, through its C interface, and the program `convert` with the second program. `compare names` prints
+//! the names of the parts, one a line. `compare NAME SEED` runs a part, from the repository's root, and prints how many
+//! inputs it had; where something differs, it prints the first difference and its status is 1.
+mod floats;
+mod halves;
+mod lent;
+mod library;
+mod numbers;
+mod pairs;
+mod part;
+mod program;
+mod record_calls;
+mod record_inputs;
+mod records;
+mod sessions;
+
+use part::Part;
+use std::process::ExitCode;
+
+/// A part's name, its comparison from a seed, and every number that is to be given: 0 and the refusals.
+type Named = (&'static str, fn(&mut Part, u64), &'static [u8]);
+
+const PARTS: [Named; 12] = [
+    ("forward on numbers", numbers::forward, &[0, 1, 3, 4, 5]),
+    ("inverse on numbers", numbers::inverse, &[0, 1, 3, 6, 7]),
+    ("numbers handed on", numbers::handed_on, &[0]),
+    ("forward on floats", floats::forward, &[0, 1, 2, 3, 4, 5]),
+    ("inverse on floats", floats::inverse, &[0, 1, 2, 3, 6, 7]),
+    ("floats handed on", floats::handed_on, &[0]),
+    ("records converted", records::converted, &UNCAPPED),
+    ("records fed", records::fed, &CAPPED),
+    ("records handed on", records::handed_on, &[0]),
+    ("sessions about full", sessions::about_full, &CAPPED),
+    ("runs of a session", sessions::runs, &CAPPED),
+    ("program convert", program::convert, &UNCAPPED),
+];
+
+/// What a call on a record gives without a session, and in one.
+const UNCAPPED: [u8; 10] = [0, 1, 3, 4, 5, 6, 7, 8, 9, 10];
+const CAPPED: [u8; 11] = [0, 1, 3, 4, 5, 6, 7, 8, 9, 10, 11];
+
+fn main() -> ExitCode {
+    second::check();
+    let words: Vec<String> = std::env::args().skip(1).collect();
+    match words.iter().map(String::as_str).collect::<Vec<_>>()[..] {
+        ["names"] => {
+            PARTS.iter().for_each(|(name, ..)| println!("{name}"));
+            ExitCode::SUCCESS
+        }
+        [name, seed] => run(name, seed.parse().expect("a number")),
+        _ => {
+            eprintln!("compare names | NAME SEED");
+            ExitCode::from(2)
+        }
+    }
+}
+
+fn run(name: &str, seed: u64) -> ExitCode {
+    let named = PARTS.iter().find(|(known, ..)| *known == name);
+    let (_, compare, numbers) = named.expect("the name of a part");
+    let mut part = Part::new(seed);
+    compare(&mut part, seed);
+    match part.verdict(numbers) {
+        Ok(inputs) => {
+            println!("{inputs}");
+            ExitCode::SUCCESS
+        }
+        Err(fault) => {
+            println!("{fault}");
+            ExitCode::FAILURE
+        }
+    }
+}
