@@ -73,6 +73,7 @@ pub record Alike {A : Type 0} (R : A → A → Type 0) (first second : Outcome A
   pub refusals : (n : ℕ) → (first ≡ refused n) ↔ (second ≡ refused n)
   pub answers : (p q : A) → first ≡ given p → second ≡ given q → R p q
 
+-- c is the central meridian, l and f the longitude and the latitude of a position, and x and y a place
 module _ (w : Way) where
   -- x turned and y the same
   abbrev pub TurnedX : w .Coordinate × w .Coordinate → w .Coordinate × w .Coordinate → Type 0

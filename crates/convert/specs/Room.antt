@@ -1,9 +1,11 @@
 -- The room that the program works in.
 use mathlib.Core.Path.{_≡_}
 use mathlib.Core.List.{List}
-use Prim.Native.Nat.{ℕ, _+_, _*_}
+use Prim.Native.Nat.{ℕ, _+_, _*_, _≤_}
 use lib.ListN.{length}
 use Rattle.record.specs.Record.{size}
+use Rattle.report.specs.declared.buffer.Text.{Text}
+use Rattle.report.specs.declared.buffer.Text.the-variants.{Bytes, TooShort}
 use Rattle.report.specs.Line.{lineRoom}
 
 -- the bytes of a read: 4,096 records
@@ -14,3 +16,8 @@ read = size * 4096
 pub record Room (buffer text : List ℕ) : Type 0 where
   pub bytes : length buffer ≡ size + read
   pub lines : length text ≡ lineRoom * 4096
+
+-- the bytes counted are bytes of the text
+abbrev pub Within : Text → List ℕ → Type 0
+Within (Bytes n) text = n ≤ length text
+Within TooShort text = Unit {0}

@@ -3,9 +3,8 @@
 ghost use mathlib.Core.Path.{_≡_};
 ghost use Prim.Native.Nat.{_<_};
 ghost use Rattle.record.specs.Record.{size};
-ghost use Rattle.report.specs.Buffer.{Within};
 ghost use Rattle.convert.specs.Phase.{afterError, afterWrite, NotEnded};
-ghost use Rattle.convert.specs.Room.{Room};
+ghost use Rattle.convert.specs.Room.{Room, Within};
 use record::SIZE;
 use record::Session;
 use report::LINE_ROOM;

@@ -17,7 +17,7 @@ use Rattle.projection.specs.Angle.{N, H, M}
 use Rattle.projection.specs.Table.{rows, noRow, rowOf}
 use Rattle.projection.specs.Parallel.{radicand, rootBy, rootAt, numerator}
 use Rattle.projection.specs.Refusal.{isKind}
-use Rattle.projection.specs.Columns.{Columns, idle, rootAtEquator, rootAtPole, most}
+use Rattle.projection.specs.Columns.{Columns, idle, rootAtEquator, rootAtPole, mostNumerator}
 use Rattle.projection.proofs.Every.{conj, Claim, lt, le, tests, Holds, holds, every, every-at}
 
 -- the claim `NotBelow`
@@ -38,7 +38,7 @@ claims r =
     ∷ lt (1024 * radicand r H) (2 ^ 64)
     ∷ below (r .a) M (r .b) (rootAtEquator r)
     ∷ below (r .a) M (r .b) (rootAtPole r)
-    ∷ lt (r .kx * most r + M) (2 * M * (5 * N))
+    ∷ lt (r .kx * mostNumerator r + M) (2 * M * (5 * N))
     ∷ []
 
 columns-of : (r : Row) → Holds (claims r) → Columns r
@@ -63,7 +63,7 @@ passes : Row → Bool
 passes r = tests (claims r)
 
 all-pass : T (every passes rows)
-unfolding passes claims rows rootAtEquator rootAtPole most numerator rootAt radicand rootBy root rootIn
+unfolding passes claims rows rootAtEquator rootAtPole mostNumerator numerator rootAt radicand rootBy root rootIn
 all-pass = tt
 
 -- a kind counts from 1 to the number of rows

@@ -17,7 +17,7 @@ use Rattle.projection.specs.declared.table.Method.{Method}
 use Rattle.projection.specs.declared.table.Method.the-variants.{Unused, Root, Quotient}
 use Rattle.projection.specs.Angle.{N, H, M}
 use Rattle.projection.specs.Parallel.{radicand, rootBy, rootAt, numerator, halfWidth}
-use Rattle.projection.specs.Columns.{combined, NotBelow, Usable, rootAtEquator, rootAtPole, most}
+use Rattle.projection.specs.Columns.{combined, NotBelow, Usable, rootAtEquator, rootAtPole, mostNumerator}
 
 -- x is a or b, or lies between them
 Between : ℕ → ℕ → ℕ → Type 0
@@ -124,14 +124,14 @@ module _ (r : Row) (p : ℕ) (u : Usable r p) where
       linear-between (minus (r .a) * M) (minus (r .b)) (plus (r .a) * M) (plus (r .b)) (rootAtEquator r) (rootAt r p) (rootAtPole r)
       root-between (u .columns .equator-whole) (u .columns .pole-whole)
 
-  numerator-most : numerator r (rootAt r p) ≤ most r
-  unfolding most numerator combined
+  numerator-most : numerator r (rootAt r p) ≤ mostNumerator r
+  unfolding mostNumerator numerator combined
   numerator-most =
       let c = u .columns in
       let q = combined-is (r .a) M (r .b) (rootAt r p) numerator-whole in
       let e = combined-is (r .a) M (r .b) (rootAtEquator r) (c .equator-whole) in
       let o = combined-is (r .a) M (r .b) (rootAtPole r) (c .pole-whole) in
-      let l = linear-between (plus (r .a) * M) (plus (r .b)) (most r + minus (r .a) * M) (minus (r .b)) (rootAtEquator r) (rootAt r p) (rootAtPole r)
+      let l = linear-between (plus (r .a) * M) (plus (r .b)) (mostNumerator r + minus (r .a) * M) (minus (r .b)) (rootAtEquator r) (rootAt r p) (rootAtPole r)
       root-between (omega arith) (omega arith) in
       omega arith
 

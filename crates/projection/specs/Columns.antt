@@ -32,8 +32,8 @@ unfoldable pub rootAtPole : Row → ℕ
 rootAtPole r = rootAt r H
 
 -- the greater of a M + b q at the Equator and at the pole
-unfoldable pub most : Row → ℕ
-most r = max (numerator r (rootAtEquator r)) (numerator r (rootAtPole r))
+unfoldable pub mostNumerator : Row → ℕ
+mostNumerator r = max (numerator r (rootAtEquator r)) (numerator r (rootAtPole r))
 
 -- the size of b where q is not used
 abbrev pub idle : Method → ℤ → ℕ
@@ -55,7 +55,7 @@ pub record Columns (r : Row) : Type 0 where
   pub radicand-small : 1024 * radicand r H < 2 ^ 64
   pub equator-whole : NotBelow (r .a) M (r .b) (rootAtEquator r)
   pub pole-whole : NotBelow (r .a) M (r .b) (rootAtPole r)
-  pub width-small : r .kx * most r + M < 2 * M * (5 * N)
+  pub width-small : r .kx * mostNumerator r + M < 2 * M * (5 * N)
 
 -- a row and a latitude size that a half-width is worked out from
 pub record Usable (r : Row) (p : ℕ) : Type 0 where

@@ -1,4 +1,4 @@
--- The ten outlines of document 01, a row for each kind.
+-- The table of the projections ("the ten outlines" of document 01), a row for each kind.
 use mathlib.Core.List.{List, [], _∷_}
 use Prim.Native.Nat.{ℕ, _-_}
 use lib.IntN.{ℤ, pos, negℤ}

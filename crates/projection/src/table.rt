@@ -1,4 +1,4 @@
-// The ten outlines of document 01.
+// The table of the projections ("the ten outlines" of document 01), a row for each kind.
 ghost use mathlib.Core.Path.{_≡_};
 ghost use lib.Dec.{T};
 ghost use Rattle.projection.specs.Table.{rowOf};

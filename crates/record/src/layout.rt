@@ -1,4 +1,4 @@
-// Where what stands in a record.
+// The layout of a record: which byte holds what.
 ghost use mathlib.Core.Path.{_≡_};
 ghost use lib.ListN.{length};
 ghost use Rattle.record.specs.Record.{size, otherForm, recordOf, hasMark};

@@ -74,18 +74,14 @@ unfolding putAt
 put-none l = record { behind = refl; holds = refl }
 
 -- text put at the front of a buffer that it fits, and a buffer that is too short
-pub placed : {l l′ text : List ℕ} {end : ℕ} {fits : Bool} → fits ≡ true → Put l 0 text end l′ → end ≤ length l′ → Placed fits text l (Bytes end) l′
+pub placed : {l l′ text : List ℕ} {end : ℕ} {fits : Bool} → fits ≡ true → Put l 0 text end l′ → Placed fits text l (Bytes end) l′
 unfolding putAt putFront
-placed {l} {l′} {text} {end} e p h =
+placed {text = text} {end} e p =
     let n : end ≡ length text = p .behind ∙ zero-add (length text) in
-    record {
-      counted = rw (e, n);
-      holds = rw e (p .holds ∙ rw (zero-add (length text)));
-      within = (h, sym (length-take-le end l′ h));
-    }
+    record { counted = rw (e, n); holds = rw e (p .holds ∙ rw (zero-add (length text))) }
 
 pub too-short : {l text : List ℕ} {fits : Bool} → fits ≡ false → Placed fits text l TooShort l
-too-short e = record { counted = rw e; holds = rw e; within = tt }
+too-short e = record { counted = rw e; holds = rw e }
 
 -- what an answer says of the room
 pub was-placed : (fits : Bool) {text l l′ : List ℕ} {answer : Text} {end : ℕ} → Placed fits text l answer l′ → answer ≡ Bytes end → fits ≡ true
@@ -95,3 +91,11 @@ was-placed false {end = end} p e = cc
 pub was-too-short : (fits : Bool) {text l l′ : List ℕ} {answer : Text} → Placed fits text l answer l′ → answer ≡ TooShort → fits ≡ false
 was-too-short true {text} p e = cc
 was-too-short false p e = refl
+
+-- the bytes counted are bytes of the buffer
+pub counted-le : (fits : Bool) {text l l′ : List ℕ} {answer : Text} {end : ℕ} → Placed fits text l answer l′ → answer ≡ Bytes end → end ≤ length l′
+unfolding putFront
+counted-le true {text} {end = end} p e =
+    let n : end ≡ length text = cc in
+    omega (arith, simp length-append at (ap length (p .holds)))
+counted-le false {end = end} p e = absurd (let z : _≡_ {A = ℕ} 0 1 = cc in omega arith)

@@ -3,7 +3,7 @@ use mathlib.Core.Path.{_≡_}
 use mathlib.Core.Bool.{Bool, cond}
 use mathlib.Core.Option.{Option, none, some}
 use mathlib.Core.List.{List, _++_}
-use Prim.Native.Nat.{ℕ, _+_, _≤_}
+use Prim.Native.Nat.{ℕ, _+_}
 use lib.ListN.{length, take, drop}
 use Rattle.report.specs.declared.buffer.Text.{Text}
 use Rattle.report.specs.declared.buffer.Text.the-variants.{Bytes, TooShort}
@@ -25,14 +25,7 @@ abbrev pub bytes : Text → Option ℕ
 bytes (Bytes n) = some n
 bytes TooShort = none
 
--- the bytes counted are bytes of the buffer: said twice, as a caller that lends them needs it
-abbrev pub Within : Text → List ℕ → Type 0
-Within (Bytes n) l = (n ≤ length l) × (n ≡ length (take n l))
-Within TooShort l = Unit {0}
-
--- what is answered, and what a buffer l becomes, where text is to stand at its front: it stays as it was where it is too
--- short. The last part follows from these two
+-- what is answered, and what a buffer l becomes, where text is to stand at its front: it stays as it was where it is too short
 pub record Placed (fits : Bool) (text l : List ℕ) (answer : Text) (l′ : List ℕ) : Type 0 where
   pub counted : bytes answer ≡ cond fits (some (length text)) none
   pub holds : l′ ≡ cond fits (putFront l text) l
-  pub within : Within answer l′

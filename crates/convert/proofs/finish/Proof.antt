@@ -3,11 +3,15 @@ use mathlib.Core.Path.{sym}
 use native.Mathlib.Omega.{arith}
 use borrow.Author.Needs.{needs}
 use lib.Seq.{length-take-le}
+use Rattle.convert.proofs.Lines.{within}
 use Rattle.convert.proofs.finish.Statement.{statement}
 use Rattle.convert.proofs.finish.Tie as tie
 
 slice-aggregate-last-lines : tie.Need-slice-aggregate-last-lines
 slice-aggregate-last-lines c = sym (length-take-le _ _ (omega arith))
+
+print-requires : tie.Need-print-requires
+print-requires c κs = within _ _ (c .before .before .before .last-lines .ensures)
 
 pub finish-spec : {M : Type 1} → statement M
 finish-spec =
@@ -16,7 +20,7 @@ finish-spec =
     (λ c. search needs)
     slice-aggregate-last-lines
     (λ c κs. search needs)
-    (λ c κs. search needs)
+    print-requires
     (λ c. search needs)
     (λ c. search needs)
     (λ c. search needs))

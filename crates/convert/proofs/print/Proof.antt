@@ -6,15 +6,16 @@ use Prim.Native.Nat.{ℕ}
 use borrow.Author.Needs.{needs}
 use denote.Ref.{now}
 use lib.ListN.{length, take}
+use lib.Seq.{length-take-le}
 use Rattle.report.specs.declared.buffer.Text.{Text}
 use Rattle.report.specs.declared.buffer.Text.the-variants.{Bytes}
-use Rattle.report.specs.Buffer.{Within}
 use Rattle.convert.specs.Phase.{afterWrite, NotEnded}
+use Rattle.convert.specs.Room.{Within}
 use Rattle.convert.proofs.print.Statement.{statement}
 use Rattle.convert.proofs.print.Tie as tie
 
 lent : (lines : Text) (end : ℕ) (text : List ℕ) → lines ≡ Bytes end → Within lines text → end ≡ length (take end text)
-lent lines end text e w = let h : Within (Bytes end) text = rw e at w in h .1
+lent lines end text e w = sym (length-take-le end text (subst (λ (t : Text). Within t text) e w))
 
 not-ended : (written : Bool) → NotEnded (afterWrite written)
 not-ended true = tt

@@ -4,6 +4,7 @@ use native.Mathlib.Omega.{arith}
 use borrow.Author.Needs.{needs}
 use Rattle.report.proofs.Streams.{few-held}
 use Rattle.convert.specs.Room.{read}
+use Rattle.convert.proofs.Lines.{within}
 use Rattle.convert.proofs.turn.Statement.{statement}
 use Rattle.convert.proofs.turn.Tie as tie
 
@@ -13,6 +14,9 @@ start c = c .before .before .before .before .before .before .before .before .bef
 
 part-count-end : tie.Need-part-count-end
 part-count-end c = search needs
+
+print-requires : tie.Need-print-requires
+print-requires c κs = within _ _ (c .before .before .before .before .before .before .take-in .ensures .lines)
 
 returns-3 : tie.Need-returns-3
 returns-3 c =
@@ -44,7 +48,7 @@ turn-spec =
     (λ c κs. search needs)
     (λ c. search needs)
     (λ c κs. search needs)
-    (λ c κs. search needs)
+    print-requires
     (λ c. search needs)
     (λ c. search needs)
     returns-3)

@@ -81,7 +81,7 @@ returns-2 c =
     let e : blockFits (now (a .input)) (now (a .text)) ≡ true = le-leb _ _ (s .room) in
     record {
       session = rw e (s .progress .session ∙ ap (sessionAt (a .session) (now (a .input)) 0) n);
-      lines = placed e (rw n at (s .progress .lines)) (omega arith);
+      lines = placed e (rw n at (s .progress .lines));
     }
 
 pub convert-block-spec : {M : Type 1} → statement M

@@ -1,5 +1,4 @@
 -- `report::line::answer_line` meets its contract.
-use native.Mathlib.Omega.{arith}
 use borrow.Author.Needs.{needs}
 use borrow.Author.Tests.{le-leb, lt-leb}
 use Rattle.report.proofs.Buffers.{placed, too-short}
@@ -13,7 +12,7 @@ returns-2 : tie.Need-returns-2
 returns-2 c =
     let test = c .before .before .before .before in
     let put = c .before .before .put-line in
-    placed (le-leb _ _ (test .if1 .left)) (put .ensures .0) (omega arith)
+    placed (le-leb _ _ (test .if1 .left)) (put .ensures .0)
 
 pub answer-line-spec : {M : Type 1} → statement M
 answer-line-spec = tie.close (tie.spec returns (λ c κs. search needs) (λ c. search needs) returns-2)

@@ -21,7 +21,7 @@ returns-2 c =
     let room = test .before .if1 .left in
     let a = test .before .before .before .before .args in
     rw (end-none (a .session) (now (a .tail)) (test .if2 .taken))
-    (placed (le-leb _ _ room) (put .ensures .0) (omega arith))
+    (placed (le-leb _ _ room) (put .ensures .0))
 
 returns-3 : tie.Need-returns-3
 returns-3 c =
@@ -33,8 +33,7 @@ returns-3 c =
     let a = test .before .before .before .before .args in
     let z : 0 ≤ length (now (a .text)) = omega arith in
     rw (end-some (a .session) (now (a .tail)) (fed .result) 16 (test .if2 .left) refl (fed .ensures .0) (fed .ensures .1 .0))
-    (placed (le-leb _ _ room) (put-twice z (line .put-line .ensures .0) (closing .ensures .0))
-    (omega (arith, line .put-line .ensures .1, room)))
+    (placed (le-leb _ _ room) (put-twice z (line .put-line .ensures .0) (closing .ensures .0)))
 
 pub last-lines-spec : {M : Type 1} → statement M
 last-lines-spec =

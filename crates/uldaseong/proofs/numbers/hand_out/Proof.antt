@@ -1,7 +1,6 @@
 -- `uldaseong::numbers::hand_out` meets its contract.
 use mathlib.Core.Path.{sym, ap}
 use denote.Ref.{now}
-use lib.IntN.{ℤ}
 use mir.Syntax.{w32}
 use mir.Val.{SFits}
 use mir.Facts.{toZ-ofZ}
