@@ -1,7 +1,7 @@
 //! Requests at the edges: the limits of each number and what lies on either side of them.
 use crate::map::{row_latitude, row_width, row_y, HALF_TURN, RIGHT_ANGLE};
 use crate::request::Request;
-use crate::requests::{back_and_there, place, position, there_and_back, width, DEGREE};
+use crate::requests::{place, position, width, DEGREE};
 use crate::table::{row_of, Row};
 
 pub const LEAST: i128 = i32::MIN as i128;
@@ -72,14 +72,14 @@ pub fn positions() -> Vec<Request> {
     for kind in 1..=10 {
         for central in CENTRALS {
             for longitude in longitudes(central) {
-                requests.extend(there_and_back(kind, central, longitude, 60 * DEGREE));
+                requests.extend(position(kind, central, longitude, 60 * DEGREE).handed_on());
                 let other = latitude.next().expect("an endless list");
                 requests.push(position(kind, central, longitude, other));
             }
         }
         for latitude in latitudes() {
             for longitude in [HALF_TURN, -HALF_TURN, 1] {
-                requests.extend(there_and_back(kind, 0, longitude, latitude));
+                requests.extend(position(kind, 0, longitude, latitude).handed_on());
             }
         }
     }
@@ -107,7 +107,7 @@ pub fn places() -> Vec<Request> {
         for y in heights(&row) {
             for x in breadths(&row, y) {
                 let central = centrals.next().expect("an endless list");
-                requests.extend(back_and_there(kind, central, x, y));
+                requests.extend(place(kind, central, x, y).handed_on());
             }
         }
     }

@@ -1,6 +1,6 @@
 //! Requests on floats at the edges: the ends of the format, the limits of each float and halves, with what lies on either
 //! side of them.
-use crate::float_requests::{back_and_there, place, position, there_and_back};
+use crate::float_requests::{place, position};
 use crate::map::{inverse, row_latitude, row_width, row_y, Answer, HALF_TURN, RIGHT_ANGLE};
 use crate::request::Request;
 use crate::table::{row_of, Row};
@@ -91,7 +91,7 @@ pub fn positions() -> Vec<Request> {
     for kind in 1..=10 {
         for (central, edge) in pairs(&centrals, &edges) {
             let latitude = latitudes.next().expect("an endless list");
-            requests.extend(there_and_back(kind, central, edge, latitude));
+            requests.extend(position(kind, central, edge, latitude).handed_on());
             requests.push(position(kind, central, central + edge, 60.0));
         }
     }
@@ -132,7 +132,7 @@ pub fn places() -> Vec<Request> {
         let row = row_of(kind).expect("a kind of the table");
         for latitude in [0, HALF_TURN / 3, RIGHT_ANGLE] {
             for (x, y) in edge_of_row(&row, latitude) {
-                requests.extend(back_and_there(kind, -12.5, x, y));
+                requests.extend(place(kind, -12.5, x, y).handed_on());
                 requests.push(place(kind, 12.5, -x, -y));
             }
         }

@@ -1,5 +1,5 @@
 //! Requests on floats at random, from a seed.
-use crate::float_requests::{back_and_there, place, position, there_and_back};
+use crate::float_requests::{place, position};
 use crate::map::{row_latitude, row_width, row_y, RIGHT_ANGLE};
 use crate::request::Request;
 use crate::requests::next;
@@ -47,7 +47,7 @@ impl Chance {
 
     fn position(&mut self, kind: i128) -> Vec<Request> {
         let [central, longitude, latitude] = [180.0, 180.0, 90.0].map(|limit| self.within(limit));
-        there_and_back(kind, central, longitude, latitude)
+        position(kind, central, longitude, latitude).handed_on()
     }
 
     /// A place inside its row, and one that may only be inside the Equator's.
@@ -57,7 +57,7 @@ impl Chance {
         let y = self.within(row_y(&row, RIGHT_ANGLE) as f64);
         let w = row_width(&row, row_latitude(&row, y.round() as i128).abs());
         let x = self.within(w as f64);
-        let mut requests = back_and_there(kind, central, x, y);
+        let mut requests = place(kind, central, x, y).handed_on();
         let x = self.within(row_width(&row, 0) as f64);
         requests.push(place(kind, central, x, y));
         requests

@@ -1,8 +1,6 @@
 //! Requests on floats: every edge that document 01 names, and some thousand at random from a fixed seed.
-use crate::float::{forward, inverse};
 use crate::float_edges;
 use crate::float_random;
-use crate::map::Answer;
 use crate::request::Request;
 use crate::requests::texts;
 
@@ -26,24 +24,6 @@ pub fn position(kind: i128, central: f64, longitude: f64, latitude: f64) -> Requ
 
 pub fn place(kind: i128, central: f64, x: f64, y: f64) -> Request {
     Request::FloatPlace(kind, [central, x, y])
-}
-
-/// A position, and the way back from its place, exactly as it was answered, if it has one.
-pub fn there_and_back(kind: i128, central: f64, longitude: f64, latitude: f64) -> Vec<Request> {
-    let mut requests = vec![position(kind, central, longitude, latitude)];
-    if let Answer::Floats(x, y) = forward(kind, central, longitude, latitude) {
-        requests.push(place(kind, central, x, y));
-    }
-    requests
-}
-
-/// A place, and the way on from its position, exactly as it was answered, if it has one.
-pub fn back_and_there(kind: i128, central: f64, x: f64, y: f64) -> Vec<Request> {
-    let mut requests = vec![place(kind, central, x, y)];
-    if let Answer::Floats(longitude, latitude) = inverse(kind, central, x, y) {
-        requests.push(position(kind, central, longitude, latitude));
-    }
-    requests
 }
 
 /// The cases of document 01 that floats can ask for.

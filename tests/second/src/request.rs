@@ -47,6 +47,26 @@ impl Request {
             Request::FloatPlace(kind, [central, x, y]) => float::inverse(kind, central, x, y),
         }
     }
+
+    /// The request, and the one that is handed what it is answered, exactly as it stands, if that is a place or a position.
+    pub fn handed_on(self) -> Vec<Request> {
+        let next = match (&self, self.answer()) {
+            (&Request::Position(kind, [c, ..]), Answer::Pair(x, y)) => {
+                Some(Request::Place(kind, [c, x, y]))
+            }
+            (&Request::Place(kind, [c, ..]), Answer::Pair(longitude, latitude)) => {
+                Some(Request::Position(kind, [c, longitude, latitude]))
+            }
+            (&Request::FloatPosition(kind, [c, ..]), Answer::Floats(x, y)) => {
+                Some(Request::FloatPlace(kind, [c, x, y]))
+            }
+            (&Request::FloatPlace(kind, [c, ..]), Answer::Floats(longitude, latitude)) => {
+                Some(Request::FloatPosition(kind, [c, longitude, latitude]))
+            }
+            _ => None,
+        };
+        std::iter::once(self).chain(next).collect()
+    }
 }
 
 /// The line that reads back as the same request.

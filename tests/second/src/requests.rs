@@ -1,7 +1,7 @@
 //! Requests over every kind and every edge that document 01 names, and some thousand at random from a fixed seed.
 use crate::edges;
 use crate::float_requests;
-use crate::map::{forward, inverse, row_latitude, row_width, row_y, Answer};
+use crate::map::{row_latitude, row_width, row_y};
 use crate::map::{HALF_TURN, RIGHT_ANGLE};
 use crate::request::Request;
 use crate::table::row_of;
@@ -42,31 +42,13 @@ pub fn place(kind: i128, central: i128, x: i128, y: i128) -> Request {
     Request::Place(kind, [central, x, y])
 }
 
-/// A position, and the way back from its place if it has one.
-pub fn there_and_back(kind: i128, central: i128, longitude: i128, latitude: i128) -> Vec<Request> {
-    let mut requests = vec![position(kind, central, longitude, latitude)];
-    if let Answer::Pair(x, y) = forward(kind, central, longitude, latitude) {
-        requests.push(place(kind, central, x, y));
-    }
-    requests
-}
-
-/// A place, and the way on from its position if it has one.
-pub fn back_and_there(kind: i128, central: i128, x: i128, y: i128) -> Vec<Request> {
-    let mut requests = vec![place(kind, central, x, y)];
-    if let Answer::Pair(longitude, latitude) = inverse(kind, central, x, y) {
-        requests.push(position(kind, central, longitude, latitude));
-    }
-    requests
-}
-
 /// Neighbouring meridians of kind 2: apart at 72 degrees, some of them in one place at 89.
 fn neighbours() -> Vec<Request> {
     let mut requests = Vec::new();
     for latitude in [72 * DEGREE, 89 * DEGREE] {
         for first in [-20, 45 * DEGREE, HALF_TURN - 40] {
             for longitude in first..=first + 40 {
-                requests.extend(there_and_back(2, 0, longitude, latitude));
+                requests.extend(position(2, 0, longitude, latitude).handed_on());
             }
         }
     }
@@ -84,7 +66,7 @@ fn random() -> Vec<Request> {
         let central = within(&mut state, HALF_TURN);
         let longitude = within(&mut state, HALF_TURN);
         let latitude = within(&mut state, RIGHT_ANGLE);
-        requests.extend(there_and_back(kind, central, longitude, latitude));
+        requests.extend(position(kind, central, longitude, latitude).handed_on());
     }
     for i in 0..1500 {
         let kind = 1 + i % 10;
@@ -92,7 +74,7 @@ fn random() -> Vec<Request> {
         let central = within(&mut state, HALF_TURN);
         let y = within(&mut state, row_y(&row, RIGHT_ANGLE));
         let w = row_width(&row, row_latitude(&row, y));
-        requests.extend(back_and_there(kind, central, within(&mut state, w), y));
+        requests.extend(place(kind, central, within(&mut state, w), y).handed_on());
         // most of these are inside, some are only inside the Equator's width
         let x = within(&mut state, row_width(&row, 0));
         requests.push(place(kind, central, x, y));
