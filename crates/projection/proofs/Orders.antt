@@ -38,23 +38,23 @@ module _ (kind : ℕ) (central longitude latitude : ℤ) where
       Passes (badLatitude latitude) →
       given (placeOf (rowOf kind) central longitude latitude) ≡ forwardOf kind central longitude latitude
   unfolding forwardOf unless
-  forward-given k c l f = cc
+  forward-given k c l f = rw (k, c, l, f)
 
 module _ (kind : ℕ) (central x y : ℤ) where
   pub inverse-row : Passes (badKind kind) → Passes (badCentral central) →
       onRow (rowOf kind) central x y ≡ inverseOf kind central x y
   unfolding inverseOf onRow unless
-  inverse-row k c = cc
+  inverse-row k c = rw (k, c)
 
 module _ (r : Row) (central x y : ℤ) where
   pub row-6 : Applies (badY r y) → refused 6 ≡ onRow r central x y
   unfolding onRow unless
-  row-6 h = cc
+  row-6 h = rw h
 
   pub row-7 : Passes (badY r y) → Applies (badX r x y) → refused 7 ≡ onRow r central x y
   unfolding onRow unless
-  row-7 h k = cc
+  row-7 h k = rw (h, k)
 
   pub row-given : Passes (badY r y) → Passes (badX r x y) → given (positionOf r central x y) ≡ onRow r central x y
   unfolding onRow unless
-  row-given h k = cc
+  row-given h k = rw (h, k)

@@ -1,7 +1,9 @@
 // The table of the projections ("the ten outlines" of document 01), a row for each kind.
 ghost use mathlib.Core.Path.{_≡_};
 ghost use lib.Dec.{T};
-ghost use Rattle.projection.specs.Table.{rowOf};
+ghost use Prim.Native.Nat.{_<_};
+ghost use lib.ListN.{length, getD};
+ghost use Rattle.projection.specs.Table.{rows, noRow, rowOf};
 ghost use Rattle.projection.specs.Refusal.{isKind as isKindOf};
 
 // How a row has its q.
@@ -126,14 +128,12 @@ pub fn is_kind(kind: u8) -> bool
     }
 }
 
-// The row of a kind.
+// The row of a kind, taken field by field: a copy of the whole would wait for its narrow last field.
 pub(crate) fn row_of(kind: u8) -> Row
     requires { ⌜ T (isKindOf kind) ⌝ }
     ensures { λ r. ⌜ r ≡ rowOf kind ⌝ }
 {
-    let i = (kind - 1) as usize;
-    let row = ROWS[i];
-    // Field by field: a copy of the whole would wait for the narrow last field.
+    let row = row_at((kind - 1) as usize);
     let method = row.method;
     Row {
         kx: row.kx,
@@ -143,4 +143,12 @@ pub(crate) fn row_of(kind: u8) -> Row
         e: row.e,
         method,
     }
+}
+
+// A row of the table, counted from 0.
+fn row_at(i: usize) -> Row
+    requires { ⌜ i < length rows ⌝ }
+    ensures { λ r. ⌜ r ≡ getD rows i noRow ⌝ }
+{
+    ROWS[i]
 }

@@ -44,13 +44,13 @@ all-good c =
     (sym (c .before .all-finite .ensures) ∙ not-false (c .before .all-finite .result) (c .if2 .left))
 
 central-good : (c : tie.Else3) → Passes (badCentral (start3 c .args .central))
-central-good c = rw (c .before .outside .ensures, limit-180 (start3 c .args .central)) at (c .if3 .left)
+central-good c = sym (c .before .outside .ensures ∙ limit-180 (start3 c .args .central)) ∙ c .if3 .left
 
 longitude-good : (c : tie.Else4) → Passes (badLongitude (start4 c .args .at .longitude))
-longitude-good c = rw (c .before .outside2 .ensures, limit-180 (start4 c .args .at .longitude)) at (c .if4 .left)
+longitude-good c = sym (c .before .outside2 .ensures ∙ limit-180 (start4 c .args .at .longitude)) ∙ c .if4 .left
 
 latitude-good : (c : tie.Else5) → Passes (badLatitude (start5 c .args .at .latitude))
-latitude-good c = rw (c .before .outside3 .ensures, limit-90 (start5 c .args .at .latitude)) at (c .if5 .left)
+latitude-good c = sym (c .before .outside3 .ensures ∙ limit-90 (start5 c .args .at .latitude)) ∙ c .if5 .left
 
 -- what all tests together say, once the last is passed
 record Judged (c : tie.Else5) : Type 0 where

@@ -39,7 +39,7 @@ all-good c =
     all-finite (s .central) (s .x) (s .y) (sym (c .before .all-finite .ensures) ∙ not-false (c .before .all-finite .result) (c .if2 .left))
 
 central-good : (c : tie.Else3) → Passes (badCentral (start3 c .args .central))
-central-good c = rw (c .before .outside .ensures, limit-180 (start3 c .args .central)) at (c .if3 .left)
+central-good c = sym (c .before .outside .ensures ∙ limit-180 (start3 c .args .central)) ∙ c .if3 .left
 
 -- the numbers that are handed on
 central-is : (c : tie.After-centiseconds) → toZ w32 (ofZ w32 (c .centiseconds .result)) ≡ centiseconds (start3 (c .before) .args .central)

@@ -1,10 +1,11 @@
 -- `projection::parallel::half_width` meets its contract: its tests are the conditions of the refusals, in their order.
-use mathlib.Core.Path.{_≡_}
+use mathlib.Core.Bool.{true}
+use mathlib.Core.Path.{_≡_, sym, ap, _∙_}
 use borrow.Author.Needs.{needs}
 use lib.Dec.{T}
 use Rattle.whole.specs.Signed.{joinOf}
 use Rattle.whole.proofs.Signs.{natAbs-join}
-use Rattle.projection.specs.Angle.{H}
+use Rattle.projection.specs.Angle.{H, outside}
 use Rattle.projection.specs.Refusal.{isKind, unless}
 use Rattle.projection.specs.Answer.{widthOf}
 use Rattle.projection.proofs.Rows.{columns}
@@ -24,7 +25,8 @@ returns-2 : tie.Need-returns-2
 unfolding widthOf unless
 returns-2 c =
     let n = c .before .before in
-    rw (← n .before .before .is-kind .ensures, n .before .if1 .left, ← latitude-is n, ← c .before .outside .ensures, c .if2 .taken)
+    let bad : outside H (n .before .before .before .args .latitude) ≡ true = sym (c .before .outside .ensures ∙ ap (outside H) (latitude-is n)) ∙ c .if2 .taken in
+    rw (← n .before .before .is-kind .ensures, n .before .if1 .left, bad)
 
 kind-true : (c : tie.Else2) → T (isKind (c .before .before .before .before .before .args .kind))
 kind-true c = not-false (isKind _) (cc)
