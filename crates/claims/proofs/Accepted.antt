@@ -5,14 +5,15 @@ use Prim.Native.Nat.{ℕ, _≤_}
 use borrow.Author.Tests.{ltb-false, le-ltb}
 use lib.Dec.{T}
 use lib.IntN.{ℤ, natAbs}
-use Rattle.projection.specs.Angle.{N, H}
-use Rattle.projection.specs.Table.{rowOf}
-use Rattle.projection.specs.Parallel.{height}
+use Rattle.angle.specs.Angle.{N, H}
+use Rattle.angle.proofs.Judged.{not-false}
+use Rattle.parallel.specs.Table.{rowOf}
+use Rattle.parallel.specs.Parallel.{height}
+use Rattle.parallel.specs.Latitude.{widthAt}
+use Rattle.parallel.specs.Refusal.{given, isKind}
 use Rattle.projection.specs.Forward.{placeOf}
-use Rattle.projection.specs.Inverse.{widthAt, positionOf}
-use Rattle.projection.specs.Refusal.{given, isKind}
+use Rattle.projection.specs.Inverse.{positionOf}
 use Rattle.projection.specs.Answer.{forwardOrder, inverseOrder, forwardOf, inverseOf}
-use Rattle.projection.proofs.Judged.{not-false}
 use Rattle.claims.proofs.Refusals.{unless-none, unless-given}
 
 pub kind-false : (b : Bool) → T b → not b ≡ false

@@ -8,13 +8,13 @@ use Rattle.whole.specs.Root.{IsRoot, root}
 use Rattle.whole.specs.Signed.{plus, minus}
 use Rattle.whole.proofs.Squares.{root-is}
 use Rattle.whole.proofs.Signs.{parts, less, plus-mul, minus-mul, natAbs-mul}
-use Rattle.projection.specs.declared.table.Row.{Row}
-use Rattle.projection.specs.declared.table.Method.{Method}
-use Rattle.projection.specs.declared.table.Method.the-variants.{Unused, Root, Quotient}
-use Rattle.projection.specs.Angle.{N, M}
-use Rattle.projection.specs.Parallel.{radicand, rootBy, rootAt, numerator, halfWidth}
-use Rattle.projection.specs.Columns.{combined, Usable, idle}
-use Rattle.projection.proofs.Widths.{combined-is, numerator-whole, width-near}
+use Rattle.angle.specs.Angle.{N, M}
+use Rattle.parallel.specs.declared.table.Row.{Row}
+use Rattle.parallel.specs.declared.table.Method.{Method}
+use Rattle.parallel.specs.declared.table.Method.the-variants.{Unused, Root, Quotient}
+use Rattle.parallel.specs.Parallel.{radicand, rootBy, rootAt, numerator, halfWidth}
+use Rattle.parallel.specs.Columns.{combined, Usable, idle}
+use Rattle.parallel.proofs.Widths.{combined-is, numerator-whole, width-near}
 use Rattle.claims.specs.ExactRoot.{NearRoot}
 use Rattle.claims.specs.Demand2.{slope, rest, WithinOne}
 use Rattle.claims.proofs.Roots.{AtMost, AtLeast, near-root}

@@ -8,22 +8,23 @@ use borrow.Author.Tests.{not-false, ltb-false}
 use lib.IntN.{ℤ, negℤ, natAbs}
 use lib.Ieee.{Float}
 use lib.Ieee.Scale.{finite}
-use Rattle.projection.specs.Angle.{H}
-use Rattle.projection.specs.Table.{rowOf}
-use Rattle.projection.specs.Parallel.{height}
+use Rattle.angle.specs.Angle.{H}
+use Rattle.angle.proofs.Judged as Judged
+use Rattle.parallel.specs.Table.{rowOf}
+use Rattle.parallel.specs.Parallel.{height}
+use Rattle.parallel.specs.Latitude.{widthAt}
+use Rattle.parallel.specs.Refusal.{refused, given, isKind, onGiven}
 use Rattle.projection.specs.Forward.{placeOf}
-use Rattle.projection.specs.Inverse.{widthAt, positionOf}
-use Rattle.projection.specs.Refusal.{refused, given, isKind}
+use Rattle.projection.specs.Inverse.{positionOf}
 use Rattle.projection.specs.Answer.{forwardOf, inverseOf}
-use Rattle.projection.proofs.Judged as Judged
-use Rattle.degrees.specs.Reading.{readOf, perDegree, centiseconds, units, outside}
+use Rattle.reading.specs.Reading.{readOf, perDegree, centiseconds, units, outside}
+use Rattle.reading.proofs.Turned.{finite-neg, outside-neg, read-neg, read-zero}
+use Rattle.reading.proofs.Rounded.{Stands}
+use Rattle.reading.proofs.Floats.{read-within}
 use Rattle.degrees.specs.Writing.{degreesOf, unitsOf}
-use Rattle.degrees.specs.Answer.{onGiven, writtenPlace, writtenPosition, forwardOrder, inverseOrder, forwardOf as forwardDegrees, inverseOf as inverseDegrees}
-use Rattle.degrees.proofs.Turned.{finite-neg, outside-neg, read-neg, read-zero}
-use Rattle.degrees.proofs.Rounded.{Stands}
+use Rattle.degrees.specs.Answer.{writtenPlace, writtenPosition, forwardOrder, inverseOrder, forwardOf as forwardDegrees, inverseOf as inverseDegrees}
 use Rattle.degrees.proofs.Written.{degrees-stand, units-stand}
 use Rattle.degrees.proofs.Numbers.{forward-numbers, inverse-numbers}
-use Rattle.degrees.proofs.Floats.{read-within}
 use Rattle.claims.specs.Demand3.{TurnedFloat, floats}
 use Rattle.claims.proofs.Refusals.{unless-given, same-refusals}
 use Rattle.claims.proofs.Accepted.{kind-false, Position, position, accepts, Place, place, admits}

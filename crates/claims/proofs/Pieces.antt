@@ -5,10 +5,11 @@ use mathlib.Core.Path.{_≡_, refl, sym, ap, _∙_}
 use Prim.Native.Nat.{ℕ}
 use lib.IntN.{ℤ}
 use lib.ListN.{length}
-use Rattle.projection.specs.Refusal.{Outcome, refused, given}
+use Rattle.parallel.specs.Refusal.{Outcome, refused, given}
 use Rattle.record.specs.Refusal.{bothOfSize}
 use Rattle.record.specs.Answer.{judgedOf}
-use Rattle.record.proofs.Orders.{converted-8, converted, fed-8, fed-11, fed}
+use Rattle.record.proofs.Orders.{converted-8, converted}
+use Rattle.session.proofs.Orders.{fed-8, fed-11, fed}
 use Rattle.claims.specs.Demand3.{Alike}
 use Rattle.claims.specs.RecordLaws.{Handing, converting, feeding}
 use Rattle.claims.proofs.Refusals.{not-both}
@@ -33,7 +34,7 @@ feeding-answers =
     record {
       short = λ t s output b. sym (fed-8 t s output (ap not b));
       filled = λ t s output b f. sym (fed-11 t s output (ap not b) f);
-      judged = λ t s output b f. sym (fed t s output (ap not b) f);
+      judged = λ t s output b f. sym (converted s output (ap not b) ∙ fed t s output f);
     }
 
 -- two outcomes that are refused by one number are alike

@@ -13,8 +13,8 @@ use lib.Seq.{getD-take}
 use mir.Syntax.{w32}
 use mir.Val.{SFits}
 use Rattle.whole.proofs.Signs.{fits}
-use Rattle.projection.specs.Angle.{N}
-use Rattle.projection.specs.Refusal.{refused, given}
+use Rattle.angle.specs.Angle.{N}
+use Rattle.parallel.specs.Refusal.{refused, given}
 use Rattle.projection.specs.Answer.{forwardOf, inverseOf}
 use Rattle.little_endian.specs.Number.{bytesOf}
 use Rattle.record.specs.Record.{size, mark, position, place, otherForm, recordOf, hasMark, kindIn, formIn, centralIn, firstIn, secondIn, movedOf}

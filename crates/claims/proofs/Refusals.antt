@@ -5,7 +5,7 @@ use mathlib.Core.Logic.{_↔_}
 use mathlib.Core.Path.{_≡_, refl, ap}
 use Prim.Native.Nat.{ℕ}
 use native.Mathlib.Omega.{arith}
-use Rattle.projection.specs.Refusal.{Refusal, refused, given, unless}
+use Rattle.parallel.specs.Refusal.{Refusal, refused, given, unless}
 use Rattle.claims.specs.Demand1.{None, First, Ordered}
 
 module _ {A : Type 0} where

@@ -8,21 +8,25 @@ use Rattle.whole.specs.Nearest.{nearest}
 use Rattle.whole.proofs.Rounding.{near}
 use Rattle.whole.proofs.Scales.{back-within}
 use Rattle.whole.proofs.Signs.{natAbs-on, on-within}
-use Rattle.projection.specs.declared.table.Row.{Row}
-use Rattle.projection.specs.Angle.{N, H}
-use Rattle.projection.specs.Table.{rowOf}
-use Rattle.projection.specs.Parallel.{halfWidth, height}
+use Rattle.angle.specs.Angle.{N, H}
+use Rattle.parallel.specs.declared.table.Row.{Row}
+use Rattle.parallel.specs.Table.{rowOf}
+use Rattle.parallel.specs.Parallel.{halfWidth, height}
+use Rattle.parallel.specs.Latitude.{yOf}
+use Rattle.parallel.specs.Latitude.{latitudeSize, latitudeAt, widthAt}
+use Rattle.parallel.specs.Refusal.{given}
+use Rattle.parallel.specs.Columns.{Columns}
+use Rattle.parallel.proofs.Rows.{columns}
+use Rattle.parallel.proofs.Scales.{scaled-zero, unscaled-le}
+use Rattle.parallel.proofs.Heights.{y-on, height-zero, height-le}
+use Rattle.parallel.proofs.Heights.{latitude-le, found-small}
 use Rattle.projection.specs.Longitude.{wrap, differenceOf, longitudeOf}
-use Rattle.projection.specs.Forward.{xOf, yOf, placeOf}
-use Rattle.projection.specs.Inverse.{latitudeSize, latitudeAt, widthAt, differenceAt, positionOf}
-use Rattle.projection.specs.Refusal.{given}
-use Rattle.projection.specs.Columns.{Columns}
+use Rattle.projection.specs.Forward.{xOf, placeOf}
+use Rattle.projection.specs.Inverse.{differenceAt, positionOf}
 use Rattle.projection.specs.Answer.{inverseOf}
-use Rattle.projection.proofs.Rows.{columns}
 use Rattle.projection.proofs.Longitudes.{longitude-le}
-use Rattle.projection.proofs.Scales.{scaled-zero, unscaled-le}
-use Rattle.projection.proofs.Places.{x-on, y-on, height-zero, height-le}
-use Rattle.projection.proofs.Found.{latitude-le, found-small, difference-on}
+use Rattle.projection.proofs.Places.{x-on}
+use Rattle.projection.proofs.Found.{difference-on}
 use Rattle.claims.specs.Demand3.{numbers, Close, Resends}
 use Rattle.claims.proofs.Accepted.{Position, accepts, Place, place}
 use Rattle.claims.proofs.Returning.{not-zero}

@@ -9,21 +9,25 @@ use Rattle.whole.specs.Signed.{onSize}
 use Rattle.whole.proofs.Rounding.{near}
 use Rattle.whole.proofs.Scales.{return}
 use Rattle.whole.proofs.Signs.{natAbs-neg, natAbs-on, on-back}
-use Rattle.projection.specs.declared.table.Row.{Row}
-use Rattle.projection.specs.Angle.{N}
-use Rattle.projection.specs.Table.{rowOf}
-use Rattle.projection.specs.Parallel.{halfWidth, height}
+use Rattle.angle.specs.Angle.{N}
+use Rattle.parallel.specs.declared.table.Row.{Row}
+use Rattle.parallel.specs.Table.{rowOf}
+use Rattle.parallel.specs.Parallel.{halfWidth, height}
+use Rattle.parallel.specs.Latitude.{yOf}
+use Rattle.parallel.specs.Latitude.{latitudeSize, latitudeAt, widthAt}
+use Rattle.parallel.specs.Refusal.{given}
+use Rattle.parallel.specs.Columns.{Columns}
+use Rattle.parallel.proofs.Rows.{columns}
+use Rattle.parallel.proofs.Scales.{scaled-le, unscaled-zero}
+use Rattle.parallel.proofs.Heights.{y-on, height-mono}
+use Rattle.parallel.proofs.Heights.{latitude-zero}
 use Rattle.projection.specs.Longitude.{wrap, differenceOf, longitudeOf}
-use Rattle.projection.specs.Forward.{xOf, yOf, placeOf}
-use Rattle.projection.specs.Inverse.{latitudeSize, latitudeAt, widthAt, differenceAt, positionOf}
-use Rattle.projection.specs.Refusal.{given}
-use Rattle.projection.specs.Columns.{Columns}
+use Rattle.projection.specs.Forward.{xOf, placeOf}
+use Rattle.projection.specs.Inverse.{differenceAt, positionOf}
 use Rattle.projection.specs.Answer.{forwardOf}
-use Rattle.projection.proofs.Rows.{columns}
 use Rattle.projection.proofs.Longitudes.{difference-le}
-use Rattle.projection.proofs.Scales.{scaled-le, unscaled-zero}
-use Rattle.projection.proofs.Places.{x-on, y-on, height-mono}
-use Rattle.projection.proofs.Found.{latitude-zero, difference-on}
+use Rattle.projection.proofs.Places.{x-on}
+use Rattle.projection.proofs.Found.{difference-on}
 use Rattle.claims.specs.Demand3.{numbers, SameAt, Returns}
 use Rattle.claims.proofs.Accepted.{Position, position, Place, admits}
 use Rattle.claims.proofs.Wraps.{Ends, there-and-back}

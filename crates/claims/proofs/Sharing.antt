@@ -8,13 +8,13 @@ use Rattle.whole.specs.Nearest.{nearest}
 use Rattle.whole.specs.Signed.{plus, minus}
 use Rattle.whole.proofs.Scales.{share}
 use Rattle.whole.proofs.Signs.{parts, sum, natAbs-neg}
-use Rattle.projection.specs.declared.table.Row.{Row}
-use Rattle.projection.specs.Angle.{N}
-use Rattle.projection.specs.Table.{rowOf}
-use Rattle.projection.specs.Parallel.{halfWidth}
+use Rattle.angle.specs.Angle.{N}
+use Rattle.parallel.specs.declared.table.Row.{Row}
+use Rattle.parallel.specs.Table.{rowOf}
+use Rattle.parallel.specs.Parallel.{halfWidth}
+use Rattle.parallel.specs.Refusal.{given}
 use Rattle.projection.specs.Longitude.{wrap, differenceOf}
 use Rattle.projection.specs.Forward.{xOf, placeOf}
-use Rattle.projection.specs.Refusal.{given}
 use Rattle.projection.specs.Answer.{forwardOf}
 use Rattle.projection.proofs.Longitudes.{wrap-near}
 use Rattle.projection.proofs.Places.{x-on, x-turned}

@@ -3,12 +3,12 @@ use Prim.Native.Nat.{ℕ, _*_, _≤_, _<_}
 use mathlib.Core.Path.{_≡_}
 use native.Mathlib.Omega.{arith}
 use lib.IntN.{ℤ, natAbs}
-use Rattle.projection.specs.Angle.{N, H}
-use Rattle.projection.specs.Table.{rowOf}
-use Rattle.projection.specs.Refusal.{given}
+use Rattle.angle.specs.Angle.{N, H}
+use Rattle.parallel.specs.Table.{rowOf}
+use Rattle.parallel.specs.Refusal.{given}
+use Rattle.parallel.proofs.Rows.{columns}
+use Rattle.parallel.proofs.Heights.{pole-small, found-small}
 use Rattle.projection.specs.Answer.{forwardOf, inverseOf}
-use Rattle.projection.proofs.Rows.{columns}
-use Rattle.projection.proofs.Found.{pole-small, found-small}
 use Rattle.claims.proofs.Accepted.{position, place}
 use Rattle.claims.proofs.Returning.{forward-back}
 use Rattle.claims.proofs.Resending.{back-forward}

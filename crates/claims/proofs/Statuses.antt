@@ -3,13 +3,13 @@ use mathlib.Core.List.{List}
 use mathlib.Core.Path.{refl, subst}
 use Prim.Native.Nat.{ℕ}
 use lib.Dec.{T, ltb}
-use Rattle.projection.specs.Refusal.{Refusal, Outcome, refused, given, OfNumber, unless}
+use Rattle.parallel.specs.Refusal.{Refusal, Outcome, refused, given, OfNumber, unless}
+use Rattle.parallel.proofs.Orders.{OfNumbers, unless-number}
 use Rattle.projection.specs.Answer.{forwardOf, inverseOf}
-use Rattle.projection.proofs.Orders.{OfNumbers, unless-number}
 use Rattle.degrees.specs.Answer.{forwardOf as forwardDegrees, inverseOf as inverseDegrees}
 use Rattle.record.specs.Answer.{convertOf}
-use Rattle.record.specs.Session.{feedOf}
-use Rattle.record.proofs.Counted.{pair-numbers}
+use Rattle.record.proofs.Orders.{pair-numbers}
+use Rattle.session.specs.Session.{feedOf}
 use Rattle.claims.specs.Interface.{Tells, Interface}
 
 abbrev Above0 : ℕ → Type 0

@@ -4,15 +4,17 @@ use mathlib.Core.Path.{refl}
 use Prim.Native.Nat.{ℕ}
 use lib.IntN.{ℤ, negℤ, natAbs}
 use Rattle.whole.proofs.Signs.{natAbs-neg}
-use Rattle.projection.specs.Table.{rowOf}
-use Rattle.projection.specs.Parallel.{halfWidth}
+use Rattle.parallel.specs.Table.{rowOf}
+use Rattle.parallel.specs.Parallel.{halfWidth}
+use Rattle.parallel.specs.Latitude.{yOf}
+use Rattle.parallel.specs.Refusal.{Refusal, unless}
+use Rattle.parallel.proofs.Heights.{y-turned}
 use Rattle.projection.specs.Longitude.{differenceOf}
-use Rattle.projection.specs.Forward.{xOf, yOf, placeOf}
-use Rattle.projection.specs.Refusal.{Refusal, unless}
+use Rattle.projection.specs.Forward.{xOf, placeOf}
 use Rattle.projection.specs.Answer.{forwardOrder, forwardOf}
-use Rattle.projection.proofs.Places.{x-turned, y-turned}
-use Rattle.claims.proofs.Refusals.{ordered, same-refusals}
+use Rattle.projection.proofs.Places.{x-turned}
 use Rattle.claims.specs.Demand3.{numbers, Alike, TurnedX, TurnedY}
+use Rattle.claims.proofs.Refusals.{ordered, same-refusals}
 
 -- answers in a relation are alike after one and the same order of refusals
 unless-alike : {A : Type 0} (R : A → A → Type 0) (order : List Refusal) (p q : A) → R p q → Alike R (unless order p) (unless order q)

@@ -3,8 +3,8 @@ use mathlib.Core.Logic.{_↔_}
 use mathlib.Core.Path.{_≡_, sym, subst, _∙_}
 use Prim.Native.Nat.{ℕ, _≤_}
 use lib.IntN.{ℤ, negℤ, natAbs}
-use Rattle.projection.specs.Angle.{N}
-use Rattle.projection.specs.Refusal.{Outcome, refused, given}
+use Rattle.angle.specs.Angle.{N}
+use Rattle.parallel.specs.Refusal.{Outcome, refused, given}
 use Rattle.projection.specs.Answer.{forwardOf, inverseOf}
 use Rattle.claims.specs.Demand3.{Way, numbers, SameAt, Alike, TurnedX, TurnedY, Returns, Shares, Resends, Demand3}
 use Rattle.claims.proofs.Accepted.{position}

@@ -6,7 +6,7 @@ use native.Mathlib.Omega.{arith}
 use lib.IntN.{ℤ, negℤ, natAbs, _+ℤ_, _-ℤ_}
 use Rattle.whole.specs.Signed.{plus, minus}
 use Rattle.whole.proofs.Signs.{Parts, parts, sum, less, natAbs-neg, plus-neg, minus-neg, ext}
-use Rattle.projection.specs.Angle.{N}
+use Rattle.angle.specs.Angle.{N}
 use Rattle.projection.specs.Longitude.{wrap}
 use Rattle.projection.proofs.Longitudes.{Wrapped, stay, down, up, wrapped}
 

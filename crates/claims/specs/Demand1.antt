@@ -8,17 +8,18 @@ use Prim.Native.Nat.{ℕ, _≤_}
 use lib.Dec.{T}
 use lib.Ieee.{Float}
 use lib.IntN.{ℤ, natAbs}
-use Rattle.projection.specs.Table.{rowOf}
-use Rattle.projection.specs.Parallel.{halfWidth}
+use Rattle.parallel.specs.Table.{rowOf}
+use Rattle.parallel.specs.Parallel.{halfWidth}
+use Rattle.parallel.specs.Refusal.{Refusal, Outcome, refused, given, isKind}
+use Rattle.parallel.specs.Answer.{widthOrder, widthOf}
 use Rattle.projection.specs.Forward.{placeOf}
 use Rattle.projection.specs.Inverse.{positionOf}
-use Rattle.projection.specs.Refusal.{Refusal, Outcome, refused, given, isKind}
-use Rattle.projection.specs.Answer.{widthOrder, forwardOrder, inverseOrder, widthOf, forwardOf, inverseOf}
-use Rattle.degrees.specs.Reading.{centiseconds, units}
+use Rattle.projection.specs.Answer.{forwardOrder, inverseOrder, forwardOf, inverseOf}
+use Rattle.reading.specs.Reading.{centiseconds, units}
 use Rattle.degrees.specs.Answer.{writtenPlace, writtenPosition, forwardOrder as forwardDegreesOrder, inverseOrder as inverseDegreesOrder, forwardOf as forwardDegrees, inverseOf as inverseDegrees}
-use Rattle.record.specs.declared.session.Session.{Session}
 use Rattle.record.specs.Answer.{pairOf, convertOrder, convertOf, outputAfter}
-use Rattle.record.specs.Session.{feedOrder, feedOf}
+use Rattle.session.specs.declared.Session.{Session}
+use Rattle.session.specs.Session.{feedOrder, feedOf}
 
 -- no condition of an order holds
 abbrev pub None : List Refusal → Type 0

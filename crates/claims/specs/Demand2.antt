@@ -4,13 +4,13 @@ use mathlib.Core.Path.{_≡_}
 use Prim.Native.Nat.{ℕ, _*_, _≤_, _<_}
 use lib.Dec.{T}
 use lib.IntN.{ℤ, pos, natAbs, _+ℤ_, _-ℤ_, _*ℤ_}
-use Rattle.projection.specs.declared.table.Row.{Row}
-use Rattle.projection.specs.declared.table.Method.{Method}
-use Rattle.projection.specs.declared.table.Method.the-variants.{Unused, Root, Quotient}
-use Rattle.projection.specs.Angle.{N, H, M}
-use Rattle.projection.specs.Table.{rowOf}
-use Rattle.projection.specs.Parallel.{radicand, rootAt, numerator, halfWidth}
-use Rattle.projection.specs.Refusal.{isKind}
+use Rattle.angle.specs.Angle.{N, H, M}
+use Rattle.parallel.specs.declared.table.Row.{Row}
+use Rattle.parallel.specs.declared.table.Method.{Method}
+use Rattle.parallel.specs.declared.table.Method.the-variants.{Unused, Root, Quotient}
+use Rattle.parallel.specs.Table.{rowOf}
+use Rattle.parallel.specs.Parallel.{radicand, rootAt, numerator, halfWidth}
+use Rattle.parallel.specs.Refusal.{isKind}
 use Rattle.claims.specs.ExactRoot.{NearRoot}
 
 -- KX b, and 2 M W - KX a M

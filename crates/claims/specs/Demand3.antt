@@ -6,13 +6,14 @@ use mathlib.Core.Bool.{true}
 use Prim.Native.Nat.{ℕ, _≤_, _<_}
 use lib.Ieee.{Float, binary64, neg, eq, ofInt}
 use lib.IntN.{ℤ, pos, negℤ, natAbs, _-ℤ_}
-use Rattle.projection.specs.Angle.{N}
-use Rattle.projection.specs.Table.{rowOf}
-use Rattle.projection.specs.Parallel.{halfWidth}
-use Rattle.projection.specs.Inverse.{widthAt, differenceAt}
-use Rattle.projection.specs.Refusal.{Outcome, refused, given}
+use Rattle.angle.specs.Angle.{N}
+use Rattle.parallel.specs.Table.{rowOf}
+use Rattle.parallel.specs.Parallel.{halfWidth}
+use Rattle.parallel.specs.Latitude.{widthAt}
+use Rattle.parallel.specs.Refusal.{Outcome, refused, given}
+use Rattle.projection.specs.Inverse.{differenceAt}
 use Rattle.projection.specs.Answer.{forwardOf, inverseOf}
-use Rattle.degrees.specs.Reading.{centiseconds, units}
+use Rattle.reading.specs.Reading.{centiseconds, units}
 use Rattle.degrees.specs.Answer.{forwardOf as forwardDegrees, inverseOf as inverseDegrees}
 
 -- what is handed in and answered, the whole numbers that it stands for, when a second angle is the first with its sign

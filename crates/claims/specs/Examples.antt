@@ -5,13 +5,13 @@ use mathlib.Core.List.{List, [], _∷_, map}
 use Prim.Native.Nat.{ℕ}
 use lib.Ieee.{fin}
 use lib.IntN.{ℤ, pos, negsuc}
-use Rattle.projection.specs.Table.{neg, rowOf}
-use Rattle.projection.specs.Parallel.{halfWidth}
+use Rattle.parallel.specs.Table.{neg, rowOf}
+use Rattle.parallel.specs.Parallel.{halfWidth}
+use Rattle.parallel.specs.Latitude.{yOf}
+use Rattle.parallel.specs.Refusal.{Outcome, refused, given}
 use Rattle.projection.specs.Longitude.{differenceOf}
-use Rattle.projection.specs.Forward.{yOf}
-use Rattle.projection.specs.Refusal.{Outcome, refused, given}
 use Rattle.projection.specs.Answer.{forwardOf}
-use Rattle.degrees.specs.Reading.{centiseconds}
+use Rattle.reading.specs.Reading.{centiseconds}
 
 -- an example's number, what the definitions give, and what document 01 writes
 pub record Example : Type 0 where

@@ -5,10 +5,10 @@ use mathlib.Core.List.{List}
 use mathlib.Core.Logic.{_↔_}
 use mathlib.Core.Path.{_≡_}
 use Prim.Native.Nat.{_+_, _≤_}
-use Rattle.projection.specs.Refusal.{refused}
-use Rattle.record.specs.declared.session.Session.{Session}
-use Rattle.record.specs.Session.{isFull, feedOf, sessionAfter}
-use Rattle.record.specs.History.{Call, isMoved, isRefused, count, answerAfter, answersOf, sessionOf}
+use Rattle.parallel.specs.Refusal.{refused}
+use Rattle.session.specs.declared.Session.{Session}
+use Rattle.session.specs.Session.{isFull, feedOf, sessionAfter}
+use Rattle.session.specs.History.{Call, isMoved, isRefused, count, answerAfter, answersOf, sessionOf}
 
 pub record Histories : Type 0 where
   pub moved-is : (calls : List Call) → sessionOf calls .moved ≡ count isMoved (answersOf calls)

@@ -5,12 +5,12 @@ use mathlib.Core.Path.{_≡_}
 use Prim.Native.Nat.{ℕ}
 use lib.Ieee.{Float}
 use lib.IntN.{ℤ}
-use Rattle.projection.specs.Refusal.{Outcome, refused, given}
+use Rattle.parallel.specs.Refusal.{Outcome, refused, given}
 use Rattle.projection.specs.Answer.{forwardOf, inverseOf}
 use Rattle.degrees.specs.Answer.{forwardOf as forwardDegrees, inverseOf as inverseDegrees}
-use Rattle.record.specs.declared.session.Session.{Session}
 use Rattle.record.specs.Answer.{convertOf}
-use Rattle.record.specs.Session.{feedOf}
+use Rattle.session.specs.declared.Session.{Session}
+use Rattle.session.specs.Session.{feedOf}
 use Rattle.uldaseong.specs.Status.{statusOf, sessionIn, countsOf}
 
 abbrev pub Converted : {A : Type 0} → Outcome A → Type 0

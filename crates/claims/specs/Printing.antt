@@ -3,7 +3,7 @@
 use mathlib.Core.List.{List, [], _∷_, _++_}
 use mathlib.Core.Path.{_≡_}
 use Prim.Native.Nat.{ℕ}
-use Rattle.report.specs.Decimal.{DecimalText}
+use Rattle.lines.specs.Decimal.{DecimalText}
 use Rattle.report.specs.Block.{SessionsCompose, LinesCompose}
 use Rattle.report.specs.Program.{printedOf, ReadsDoNotMatter, TailRefused, SessionOfHistory}
 use Rattle.claims.specs.RecordExample.{input}

@@ -4,7 +4,7 @@ use mathlib.Core.Path.{_≡_}
 use Prim.Native.Nat.{ℕ}
 use lib.IntN.{pos}
 use lib.ListN.{length}
-use Rattle.projection.specs.Refusal.{given}
+use Rattle.parallel.specs.Refusal.{given}
 use Rattle.record.specs.Answer.{convertOf, outputAfter}
 
 abbrev pub input : List ℕ

@@ -6,14 +6,14 @@ use mathlib.Core.Path.{_≡_}
 use Prim.Native.Nat.{ℕ, _<_}
 use lib.IntN.{ℤ, negℤ, natAbs}
 use lib.ListN.{length, take}
-use Rattle.projection.specs.Angle.{N}
-use Rattle.projection.specs.Table.{rowOf}
-use Rattle.projection.specs.Parallel.{halfWidth}
-use Rattle.projection.specs.Refusal.{Outcome, refused, given}
-use Rattle.record.specs.declared.session.Session.{Session}
+use Rattle.angle.specs.Angle.{N}
+use Rattle.parallel.specs.Table.{rowOf}
+use Rattle.parallel.specs.Parallel.{halfWidth}
+use Rattle.parallel.specs.Refusal.{Outcome, refused, given}
 use Rattle.record.specs.Record.{size, position, place, recordOf, kindIn, formIn, centralIn, firstIn, secondIn, movedOf}
 use Rattle.record.specs.Answer.{convertOf, outputAfter}
-use Rattle.record.specs.Session.{isFull, feedOf}
+use Rattle.session.specs.declared.Session.{Session}
+use Rattle.session.specs.Session.{isFull, feedOf}
 use Rattle.claims.specs.Demand3.{numbers, OneMeridian, Alike, TurnedX, TurnedY, SamePosition, ClosePlace}
 
 -- a call: what it takes beside its two pieces, when that is full, and the answer by the input and the output's length

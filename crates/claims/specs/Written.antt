@@ -8,8 +8,8 @@ use lib.Ieee.Exact.{HasValue}
 use lib.Ieee.Scale.{finite}
 use lib.IntN.{ℤ, pos, natAbs}
 use Rattle.whole.specs.Signed.{splitOf}
-use Rattle.projection.specs.Angle.{N, H}
-use Rattle.degrees.specs.Reading.{centiseconds, units, outside}
+use Rattle.angle.specs.Angle.{N, H}
+use Rattle.reading.specs.Reading.{centiseconds, units, outside}
 use Rattle.degrees.specs.Writing.{degreesOf, unitsOf}
 
 -- the float of z hundredths of an arcsecond

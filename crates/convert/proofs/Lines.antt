@@ -3,10 +3,10 @@ use mathlib.Core.Bool.{Bool}
 use mathlib.Core.List.{List}
 use mathlib.Core.Path.{refl}
 use Prim.Native.Nat.{ℕ}
-use Rattle.report.specs.declared.buffer.Text.{Text}
-use Rattle.report.specs.declared.buffer.Text.the-variants.{Bytes, TooShort}
-use Rattle.report.specs.Buffer.{Placed}
-use Rattle.report.proofs.Buffers.{counted-le}
+use Rattle.lines.specs.declared.buffer.Text.{Text}
+use Rattle.lines.specs.declared.buffer.Text.the-variants.{Bytes, TooShort}
+use Rattle.lines.specs.Buffer.{Placed}
+use Rattle.lines.proofs.Buffers.{counted-le}
 use Rattle.convert.specs.Room.{Within}
 
 pub within : (fits : Bool) {lines l l′ : List ℕ} (answer : Text) → Placed fits lines l answer l′ → Within answer l′

@@ -4,9 +4,9 @@ use mathlib.Core.List.{List}
 use Prim.Native.Nat.{ℕ, _+_, _*_, _≤_}
 use lib.ListN.{length}
 use Rattle.record.specs.Record.{size}
-use Rattle.report.specs.declared.buffer.Text.{Text}
-use Rattle.report.specs.declared.buffer.Text.the-variants.{Bytes, TooShort}
-use Rattle.report.specs.Line.{lineRoom}
+use Rattle.lines.specs.declared.buffer.Text.{Text}
+use Rattle.lines.specs.declared.buffer.Text.the-variants.{Bytes, TooShort}
+use Rattle.lines.specs.Line.{lineRoom}
 
 -- the bytes of a read: 4,096 records
 abbrev pub read : ℕ

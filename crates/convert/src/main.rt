@@ -5,12 +5,12 @@ ghost use Prim.Native.Nat.{_<_};
 ghost use Rattle.record.specs.Record.{size};
 ghost use Rattle.convert.specs.Phase.{afterError, afterWrite, NotEnded};
 ghost use Rattle.convert.specs.Room.{Room, Within};
+use lines::LINE_ROOM;
+use lines::Text;
 use record::SIZE;
-use record::Session;
-use report::LINE_ROOM;
-use report::Text;
 use report::last_lines;
 use report::take_in;
+use session::Session;
 
 // The records of a read.
 const RECORDS: usize = 4096;

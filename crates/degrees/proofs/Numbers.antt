@@ -1,6 +1,5 @@
 -- Past the judgement of the floats, a call answers what the call on whole numbers answers at the numbers read.
-use mathlib.Core.Bool.{Bool, true, false, cond}
-use mathlib.Core.List.{List, [], _∷_}
+use mathlib.Core.Bool.{Bool, true, false}
 use mathlib.Core.Path.{_≡_, refl, sym, ap, _∙_}
 use Prim.Native.Nat.{ℕ, _*_, _≤_, _<_, min}
 use native.Mathlib.Omega.{arith}
@@ -10,29 +9,34 @@ use lib.IntN.{ℤ, natAbs}
 use lib.Ieee.{Float}
 use mir.Syntax.{w32}
 use mir.Val.{toZ, ofZ}
-use Rattle.whole.proofs.Signs.{natAbs-on, on-same, back}
-use Rattle.projection.specs.declared.table.Row.{Row}
-use Rattle.projection.specs.Angle.{N, H, outside}
-use Rattle.projection.specs.Table.{rowOf}
-use Rattle.projection.specs.Parallel.{height}
-use Rattle.projection.specs.Inverse.{widthAt, positionOf}
-use Rattle.projection.specs.Refusal.{Refusal, refused, unless, isKind, badKind}
-use Rattle.projection.specs.Columns.{Columns}
+use Rattle.whole.proofs.Signs.{natAbs-on}
+use Rattle.angle.specs.Angle.{N, H, outside}
+use Rattle.angle.proofs.Judged.{not-false}
+use Rattle.parallel.specs.declared.table.Row.{Row}
+use Rattle.parallel.specs.Table.{rowOf}
+use Rattle.parallel.specs.Parallel.{height}
+use Rattle.parallel.specs.Latitude.{widthAt}
+use Rattle.parallel.specs.Refusal.{onGiven, isKind, badKind}
+use Rattle.parallel.specs.Columns.{Columns}
+use Rattle.parallel.proofs.Orders.{Passes, on-unless}
+use Rattle.parallel.proofs.Rows.{columns}
+use Rattle.parallel.proofs.Heights.{pole-small, found-small}
+use Rattle.projection.specs.Inverse.{positionOf}
 use Rattle.projection.specs.Answer.{rowOrder, onRow, forwardOf as forwardNumbers, inverseOf as inverseNumbers}
-use Rattle.projection.proofs.Orders.{Passes, forward-given as numbers-given, inverse-row as numbers-row, row-6, row-7}
-use Rattle.projection.proofs.Judged.{not-false}
-use Rattle.projection.proofs.Rows.{columns}
-use Rattle.projection.proofs.Found.{pole-small, found-small}
-use Rattle.degrees.specs.Held.{most, held}
-use Rattle.degrees.specs.Reading.{perDegree, centiseconds, units}
+use Rattle.projection.proofs.Orders.{forward-given as numbers-given, inverse-row as numbers-row, row-6, row-7}
+use Rattle.reading.specs.Reading.{perDegree, centiseconds, units, outside as farther}
+use Rattle.reading.specs.Held.{most, held}
+use Rattle.reading.proofs.Floats.{read-within}
+use Rattle.reading.proofs.Held.{held-back, held-same}
 use Rattle.degrees.specs.Refusal.{badCentral, badLongitude, badLatitude}
-use Rattle.degrees.specs.Answer.{onGiven, writtenPlace, writtenPosition, forwardOf, inverseOf}
-use Rattle.degrees.proofs.Floats.{read-within}
+use Rattle.degrees.specs.Answer.{writtenPlace, writtenPosition, forwardOf, inverseOf}
 use Rattle.degrees.proofs.Orders.{Finite, forward-given, inverse-row}
 
--- a longitude or a latitude is handed on in 32 bits
-pub angle-back : (x : Float) {z : ℤ} → natAbs (centiseconds x) ≤ N → z ≡ centiseconds x → toZ w32 (ofZ w32 z) ≡ centiseconds x
-angle-back x h e = ap (λ (z : ℤ). toZ w32 (ofZ w32 z)) e ∙ back w32 (centiseconds x) (omega arith)
+-- a longitude or a latitude that passed its limit is handed on as it is read
+pub angle-back : (n : ℕ) (x : Float) {z : ℤ} → n ≤ 180 → farther n x ≡ false → z ≡ held (centiseconds x) →
+    toZ w32 (ofZ w32 z) ≡ centiseconds x
+angle-back n x l h e =
+    held-back (centiseconds x) e ∙ held-same (centiseconds x) (omega (arith, read-within n perDegree x h))
 
 pub forward-numbers : (kind : ℕ) (c l f : Float) → Passes (badKind kind) → Finite c l f → Passes (badCentral c) →
     Passes (badLongitude l) → Passes (badLatitude f) →
@@ -44,17 +48,6 @@ forward-numbers kind c l f k h i j m =
     (le-ltb H (natAbs (centiseconds f)) (read-within 90 perDegree f m))))
     ∙ forward-given kind c l f k h i j m
 
--- what is given after an order of refusals may be exchanged before it
-on-unless : {A B : Type 0} (g : A → B) (order : List Refusal) (a : A) → onGiven g (unless order a) ≡ unless order (g a)
-unfolding unless
-on-unless g [] a = refl
-on-unless g (r ∷ rs) a = go (r .applies) (on-unless g rs a)
-  where
-    go : (b : Bool) → onGiven g (unless rs a) ≡ unless rs (g a) →
-        onGiven g (cond b (refused (r .number)) (unless rs a)) ≡ cond b (refused (r .number)) (unless rs (g a))
-    go true e = refl
-    go false e = e
-
 pub inverse-numbers : (kind : ℕ) (c x y : Float) → Passes (badKind kind) → Finite c x y → Passes (badCentral c) →
     onGiven writtenPosition (inverseNumbers kind (centiseconds c) (units x) (units y)) ≡ inverseOf kind c x y
 unfolding onRow
@@ -65,12 +58,9 @@ inverse-numbers kind c x y k h i =
     ∙ on-unless writtenPosition (rowOrder r (units x) (units y)) (positionOf r (centiseconds c) (units x) (units y))
     ∙ inverse-row kind c x y k h i
 
--- what the code holds of a place: no row's answer shows it
-pub held-back : (x : ℤ) {z : ℤ} → z ≡ held x → toZ w32 (ofZ w32 z) ≡ held x
-held-back x e = ap (λ (z : ℤ). toZ w32 (ofZ w32 z)) e ∙ back w32 (held x) (omega (arith, natAbs-on (min most) x))
-
-held-same : (n : ℕ) (z : ℤ) → n < 5 * N → outside n z ≡ false → held z ≡ z
-held-same n z h e = on-same (min most) z (omega (arith, ltb-false n (natAbs z) e))
+-- what is held of a place: no row's answer shows it
+held-inside : (n : ℕ) (z : ℤ) → n < 5 * N → outside n z ≡ false → held z ≡ z
+held-inside n z h e = held-same z (omega (arith, ltb-false n (natAbs z) e))
 
 held-outside : (n : ℕ) (z : ℤ) → n < 5 * N → outside n (held z) ≡ outside n z
 held-outside n z h = rw (natAbs-on (min most) z) (go (outside n z) refl)
@@ -90,11 +80,11 @@ row-held r cols c x y = at-y (outside (height r H) y) refl
 
     at-x : (b : Bool) → outside (height r H) y ≡ false → outside (widthAt r y) x ≡ b → onRow r c (held x) y ≡ onRow r c x y
     at-x true e d = sym (row-7 r c (held x) y e (held-outside (widthAt r y) x (width e) ∙ d)) ∙ row-7 r c x y e d
-    at-x false e d = ap (λ (z : ℤ). onRow r c z y) (held-same (widthAt r y) x (width e) d)
+    at-x false e d = ap (λ (z : ℤ). onRow r c z y) (held-inside (widthAt r y) x (width e) d)
 
     at-y : (b : Bool) → outside (height r H) y ≡ b → onRow r c (held x) (held y) ≡ onRow r c x y
     at-y true e = sym (row-6 r c (held x) (held y) (held-outside (height r H) y top ∙ e)) ∙ row-6 r c x y e
-    at-y false e = rw (held-same (height r H) y top e) (at-x (outside (widthAt r y) x) e refl)
+    at-y false e = rw (held-inside (height r H) y top e) (at-x (outside (widthAt r y) x) e refl)
 
 pub inverse-held : (kind : ℕ) (c x y : ℤ) → Passes (badKind kind) → natAbs c ≤ N →
     inverseNumbers kind c (held x) (held y) ≡ inverseNumbers kind c x y

@@ -13,9 +13,9 @@ use lib.Ieee.Exact.{HasValue}
 use lib.Ieee.Fits.{down-pos}
 use lib.Ieee.Scale.{round-same}
 use Rattle.whole.specs.Signed.{withSign}
-use Rattle.degrees.specs.Reading.{perDegree}
+use Rattle.reading.specs.Reading.{perDegree}
+use Rattle.reading.proofs.Rounded.{Stands, rounded-back}
 use Rattle.degrees.specs.Writing.{degreesOf, unitsOf}
-use Rattle.degrees.proofs.Rounded.{Stands, rounded-back}
 
 -- one division by 360000.0, which is 5625 * 2 ^ 6
 pub per-degree : ofInt binary64 (pos perDegree) ≡ fin false 5625 (pos 6)

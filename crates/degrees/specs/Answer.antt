@@ -4,14 +4,14 @@ use mathlib.Core.List.{List, [], _∷_}
 use Prim.Native.Nat.{ℕ}
 use lib.IntN.{ℤ}
 use lib.Ieee.{Float}
-use Rattle.projection.specs.Table.{rowOf}
+use Rattle.parallel.specs.Table.{rowOf}
+use Rattle.parallel.specs.Refusal.{Refusal, Outcome, refused, given, unless, badKind}
 use Rattle.projection.specs.Forward.{placeOf}
 use Rattle.projection.specs.Inverse.{positionOf}
-use Rattle.projection.specs.Refusal.{Refusal, Outcome, refused, given, unless, badKind}
 use Rattle.projection.specs.Answer.{rowOrder}
+use Rattle.reading.specs.Reading.{centiseconds, units}
 use Rattle.degrees.specs.declared.answer.FloatAnswer.{FloatAnswer}
 use Rattle.degrees.specs.declared.answer.FloatAnswer.the-variants.{Pair, Refused}
-use Rattle.degrees.specs.Reading.{centiseconds, units}
 use Rattle.degrees.specs.Writing.{degreesOf, unitsOf}
 use Rattle.degrees.specs.Refusal.{badFloat, badCentral, badLongitude, badLatitude}
 
@@ -30,11 +30,6 @@ forwardOrder kind central longitude latitude =
 abbrev pub inverseOrder : ℕ → Float → Float → Float → List Refusal
 inverseOrder kind central x y =
     badKind kind ∷ badFloat central ∷ badFloat x ∷ badFloat y ∷ badCentral central ∷ rowOrder (rowOf kind) (units x) (units y)
-
--- f of what is given; a refusal stays
-abbrev pub onGiven : {A B : Type 0} → (A → B) → Outcome A → Outcome B
-onGiven f (given a) = given (f a)
-onGiven f (refused n) = refused n
 
 -- a pair of whole numbers, written
 abbrev pub writtenPlace : ℤ × ℤ → Float × Float

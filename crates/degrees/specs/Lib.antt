@@ -1,5 +1,3 @@
-pub mod Reading
 pub mod Writing
 pub mod Refusal
 pub mod Answer
-pub mod Held

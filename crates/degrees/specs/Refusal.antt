@@ -2,8 +2,8 @@
 use mathlib.Core.Bool.{not}
 use lib.Ieee.{Float}
 use lib.Ieee.Scale.{finite}
-use Rattle.projection.specs.Refusal.{Refusal}
-use Rattle.degrees.specs.Reading.{outside}
+use Rattle.parallel.specs.Refusal.{Refusal}
+use Rattle.reading.specs.Reading.{outside}
 
 -- 2: a float is NaN or infinite
 abbrev pub badFloat : Float → Refusal

@@ -1,7 +1,7 @@
 -- How whole numbers are written as floats.
 use lib.IntN.{ℤ, pos}
 use lib.Ieee.{Float, binary64, ofInt, div}
-use Rattle.degrees.specs.Reading.{perDegree}
+use Rattle.reading.specs.Reading.{perDegree}
 
 -- hundredths of an arcsecond as degrees: divided by 360000.0, rounded once
 unfoldable pub degreesOf : ℤ → Float

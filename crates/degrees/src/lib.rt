@@ -1,9 +1,9 @@
 // Forward and inverse on f64: degrees in place of hundredths of an arcsecond, and places as f64 (the "f64 door" of
 // document 01).
 mod answer;
+mod judging;
 mod place;
 mod position;
-mod reading;
 mod writing;
 
 pub use answer::FloatAnswer;

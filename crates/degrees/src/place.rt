@@ -2,13 +2,13 @@
 ghost use mathlib.Core.Path.{_≡_};
 ghost use Rattle.degrees.specs.Answer.{meaning, forwardOf};
 use super::answer::FloatAnswer;
-use super::reading::all_finite;
-use super::reading::centiseconds;
-use super::reading::outside;
+use super::judging::all_finite;
 use super::writing::Degrees;
 use super::writing::written_place;
+use parallel::is_kind;
 use projection::forward;
-use projection::is_kind;
+use reading::centiseconds;
+use reading::outside;
 
 // The place at a position in degrees; or the first refusal of 1, 2, 3, 4 and 5.
 pub fn forward_degrees(kind: u8, central: f64, at: Degrees) -> FloatAnswer

@@ -2,13 +2,13 @@
 ghost use mathlib.Core.Path.{_≡_};
 ghost use Rattle.degrees.specs.Answer.{meaning, inverseOf};
 use super::answer::FloatAnswer;
-use super::reading::all_finite;
-use super::reading::centiseconds;
-use super::reading::outside;
-use super::reading::units;
+use super::judging::all_finite;
 use super::writing::written_position;
+use parallel::is_kind;
 use projection::inverse;
-use projection::is_kind;
+use reading::centiseconds;
+use reading::outside;
+use reading::units;
 
 // The position in degrees at a place; or the first refusal of 1, 2, 3, 6 and 7.
 pub fn inverse_degrees(kind: u8, central: f64, x: f64, y: f64) -> FloatAnswer

@@ -1,8 +1,9 @@
 // Writing whole numbers as floats.
 ghost use mathlib.Core.Path.{_≡_};
+ghost use Rattle.parallel.specs.Refusal.{onGiven};
 ghost use Rattle.projection.specs.Answer.{meaning as wholeMeaning};
 ghost use Rattle.degrees.specs.Writing.{degreesOf};
-ghost use Rattle.degrees.specs.Answer.{meaning, onGiven, writtenPlace, writtenPosition};
+ghost use Rattle.degrees.specs.Answer.{meaning, writtenPlace, writtenPosition};
 use super::answer::FloatAnswer;
 use projection::Answer;
 

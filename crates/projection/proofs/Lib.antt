@@ -1,9 +1,4 @@
-pub mod Every
-pub mod Rows
-pub mod Widths
 pub mod Longitudes
-pub mod Scales
 pub mod Places
 pub mod Found
-pub mod Judged
 pub mod Orders

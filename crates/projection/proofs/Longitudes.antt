@@ -7,7 +7,7 @@ use borrow.Author.Tests.{ltb-true, ltb-false, lt-ltb, le-ltb}
 use lib.IntN.{ℤ, pos, negsuc, negℤ, natAbs, _+ℤ_, negℤ-+ℤ, negℤ-negℤ}
 use Rattle.whole.specs.Signed.{withSign, plus, minus}
 use Rattle.whole.proofs.Signs.{parts, sum, natAbs-neg, less-west}
-use Rattle.projection.specs.Angle.{N, outside}
+use Rattle.angle.specs.Angle.{N, outside}
 use Rattle.projection.specs.Longitude.{aTurnBack, wrap, differenceOf, longitudeOf}
 
 -- the three ways from z to its wrap r

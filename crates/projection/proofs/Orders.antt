@@ -1,37 +1,34 @@
--- The answer of each call, refusal by refusal in its order.
+-- The answers of forward and inverse, refusal by refusal in their order, and by what the parallel answers.
 use mathlib.Core.Bool.{Bool, true, false, cond}
-use mathlib.Core.List.{List, [], _∷_}
-use mathlib.Core.Path.{_≡_}
+use mathlib.Core.List.{[], _∷_}
+use mathlib.Core.Path.{_≡_, refl}
 use Prim.Native.Nat.{ℕ}
-use lib.IntN.{ℤ}
-use Rattle.projection.specs.declared.table.Row.{Row}
-use Rattle.projection.specs.Table.{rowOf}
-use Rattle.projection.specs.Forward.{placeOf}
-use Rattle.projection.specs.Inverse.{positionOf}
-use Rattle.projection.specs.Refusal.{Refusal, refused, given, OfNumber, unless, badKind, badCentral, badLongitude, badLatitude, badY, badX}
+use lib.IntN.{ℤ, natAbs}
+use Rattle.angle.specs.Angle.{H, outside}
+use Rattle.parallel.specs.declared.table.Row.{Row}
+use Rattle.parallel.specs.Table.{rowOf}
+use Rattle.parallel.specs.Parallel.{halfWidth, height}
+use Rattle.parallel.specs.Latitude.{yOf, latitudeAt, widthAt}
+use Rattle.parallel.specs.Refusal.{Outcome, refused, given, onGiven, unless, badKind, badLatitude, badY}
+use Rattle.parallel.specs.Answer.{atLatitude, atY}
+use Rattle.parallel.proofs.Orders.{Applies, Passes, on-unless}
+use Rattle.projection.specs.Longitude.{differenceOf, longitudeOf}
+use Rattle.projection.specs.Forward.{xOf, placeOf}
+use Rattle.projection.specs.Inverse.{differenceAt, positionOf}
+use Rattle.projection.specs.Refusal.{badCentral, badLongitude, badX}
 use Rattle.projection.specs.Answer.{forwardOf, onRow, inverseOf}
 
--- a refusal applies, or not
-abbrev pub Applies : Refusal → Type 0
-Applies r = r .applies ≡ true
+-- the place on a parallel that has this half-width and this y
+abbrev pub placeOn : ℤ → ℤ → ℕ × ℤ → ℤ × ℤ
+placeOn central longitude p = (xOf (p .0) (differenceOf central longitude), p .1)
 
-abbrev pub Passes : Refusal → Type 0
-Passes r = r .applies ≡ false
+-- what a parallel that has this half-width and this latitude answers to x
+abbrev pub positionOn : ℤ → ℤ → ℕ × ℤ → Outcome (ℤ × ℤ)
+positionOn central x p = cond (outside (p .0) x) (refused 7) (given (longitudeOf central (differenceAt (p .0) x), p .1))
 
--- what holds of every number of an order
-abbrev pub OfNumbers : (ℕ → Type 0) → List Refusal → Type 0
-OfNumbers P [] = Unit {0}
-OfNumbers P (r ∷ rs) = P (r .number) × OfNumbers P rs
-
--- holds of the number that the order refuses by
-pub unless-number : {A : Type 0} (P : ℕ → Type 0) (order : List Refusal) (a : A) → OfNumbers P order → OfNumber P (unless order a)
-unfolding unless
-unless-number P [] a h = tt
-unless-number P (r ∷ rs) a h = go (r .applies) (unless-number P rs a (h .1))
-  where
-    go : (b : Bool) → OfNumber P (unless rs a) → OfNumber P (cond b (refused (r .number)) (unless rs a))
-    go true k = h .0
-    go false k = k
+abbrev pub andThen : {A B : Type 0} → (A → Outcome B) → Outcome A → Outcome B
+andThen f (given a) = f a
+andThen f (refused n) = refused n
 
 module _ (kind : ℕ) (central longitude latitude : ℤ) where
   pub forward-given : Passes (badKind kind) → Passes (badCentral central) → Passes (badLongitude longitude) →
@@ -40,11 +37,33 @@ module _ (kind : ℕ) (central longitude latitude : ℤ) where
   unfolding forwardOf unless
   forward-given k c l f = rw (k, c, l, f)
 
+  -- past 1, 3 and 4, the parallel answers the rest
+  pub forward-parallel : Passes (badKind kind) → Passes (badCentral central) → Passes (badLongitude longitude) →
+      onGiven (placeOn central longitude) (atLatitude kind latitude) ≡ forwardOf kind central longitude latitude
+  unfolding forwardOf atLatitude placeOf unless
+  forward-parallel k c l =
+      rw (k, c, l)
+      (on-unless (placeOn central longitude) (badLatitude latitude ∷ []) (halfWidth (rowOf kind) (natAbs latitude), yOf (rowOf kind) latitude))
+
 module _ (kind : ℕ) (central x y : ℤ) where
   pub inverse-row : Passes (badKind kind) → Passes (badCentral central) →
       onRow (rowOf kind) central x y ≡ inverseOf kind central x y
   unfolding inverseOf onRow unless
   inverse-row k c = rw (k, c)
+
+  -- past 1 and 3, the parallel answers the rest
+  pub inverse-parallel : Passes (badKind kind) → Passes (badCentral central) →
+      andThen (positionOn central x) (atY kind y) ≡ inverseOf kind central x y
+  unfolding inverseOf atY positionOf unless
+  inverse-parallel k c = rw (k, c) (go (outside (height (rowOf kind) H) y))
+    where
+      found : ℕ × ℤ
+      found = (widthAt (rowOf kind) y, latitudeAt (rowOf kind) y)
+
+      go : (b : Bool) →
+          andThen (positionOn central x) (cond b (refused 6) (given found)) ≡ cond b (refused 6) (positionOn central x found)
+      go true = refl
+      go false = refl
 
 module _ (r : Row) (central x y : ℤ) where
   pub row-6 : Applies (badY r y) → refused 6 ≡ onRow r central x y
@@ -54,7 +73,3 @@ module _ (r : Row) (central x y : ℤ) where
   pub row-7 : Passes (badY r y) → Applies (badX r x y) → refused 7 ≡ onRow r central x y
   unfolding onRow unless
   row-7 h k = rw (h, k)
-
-  pub row-given : Passes (badY r y) → Passes (badX r x y) → given (positionOf r central x y) ≡ onRow r central x y
-  unfolding onRow unless
-  row-given h k = rw (h, k)

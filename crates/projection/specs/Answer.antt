@@ -1,32 +1,22 @@
--- What each call answers: the first refusal that applies in document 01's order, or else a half-width, a place or a
--- position.
+-- What each call answers: the first refusal that applies in document 01's order, or else a place or a position.
 use mathlib.Core.List.{List, [], _∷_}
 use Prim.Native.Nat.{ℕ}
-use lib.IntN.{ℤ, natAbs}
-use Rattle.projection.specs.declared.table.Row.{Row}
-use Rattle.projection.specs.declared.parallel.Width.{Width}
-use Rattle.projection.specs.declared.parallel.Width.the-variants.{Units, Refused}
+use lib.IntN.{ℤ}
+use Rattle.parallel.specs.declared.table.Row.{Row}
+use Rattle.parallel.specs.Table.{rowOf}
+use Rattle.parallel.specs.Refusal.{Refusal, Outcome, refused, given, unless, badKind, badLatitude, badY}
 use Rattle.projection.specs.declared.answer.Answer.{Answer}
-use Rattle.projection.specs.declared.answer.Answer.the-variants.{Pair, Refused as PairRefused}
-use Rattle.projection.specs.Table.{rowOf}
-use Rattle.projection.specs.Parallel.{halfWidth}
+use Rattle.projection.specs.declared.answer.Answer.the-variants.{Pair, Refused}
 use Rattle.projection.specs.Forward.{placeOf}
 use Rattle.projection.specs.Inverse.{positionOf}
-use Rattle.projection.specs.Refusal.{Refusal, Outcome, refused, given, unless, badKind, badCentral, badLongitude, badLatitude, badY, badX}
+use Rattle.projection.specs.Refusal.{badCentral, badLongitude, badX}
 
--- document 01's number or value for each case of the code's answers
-abbrev pub widthMeaning : Width → Outcome ℕ
-widthMeaning (Units w) = given w
-widthMeaning (Refused n) = refused n
-
+-- document 01's number or values for each case of the code's answer
 abbrev pub meaning : Answer → Outcome (ℤ × ℤ)
 meaning (Pair first second) = given (first, second)
-meaning (PairRefused n) = refused n
+meaning (Refused n) = refused n
 
 -- the order of the refusals, call by call
-abbrev pub widthOrder : ℕ → ℤ → List Refusal
-widthOrder kind latitude = badKind kind ∷ badLatitude latitude ∷ []
-
 abbrev pub forwardOrder : ℕ → ℤ → ℤ → ℤ → List Refusal
 forwardOrder kind central longitude latitude = badKind kind ∷ badCentral central ∷ badLongitude longitude ∷ badLatitude latitude ∷ []
 
@@ -35,10 +25,6 @@ rowOrder r x y = badY r y ∷ badX r x y ∷ []
 
 abbrev pub inverseOrder : ℕ → ℤ → ℤ → ℤ → List Refusal
 inverseOrder kind central x y = badKind kind ∷ badCentral central ∷ rowOrder (rowOf kind) x y
-
--- the half-width of a kind at a latitude
-unfoldable pub widthOf : ℕ → ℤ → Outcome ℕ
-widthOf kind latitude = unless (widthOrder kind latitude) (halfWidth (rowOf kind) (natAbs latitude))
 
 -- a position sent forward: x and y
 unfoldable pub forwardOf : ℕ → ℤ → ℤ → ℤ → Outcome (ℤ × ℤ)

@@ -1,9 +1,5 @@
-pub mod Angle
-pub mod Table
-pub mod Parallel
 pub mod Longitude
 pub mod Forward
 pub mod Inverse
 pub mod Refusal
 pub mod Answer
-pub mod Columns

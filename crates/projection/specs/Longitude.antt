@@ -2,7 +2,7 @@
 use mathlib.Core.Bool.{cond}
 use Prim.Native.Nat.{_*_}
 use lib.IntN.{ℤ, pos, negsuc, _+ℤ_, _-ℤ_}
-use Rattle.projection.specs.Angle.{N, outside}
+use Rattle.angle.specs.Angle.{N, outside}
 
 -- 2 N taken away from a number above 0, or added to one below
 abbrev pub aTurnBack : ℤ → ℤ

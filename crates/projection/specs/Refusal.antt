@@ -1,42 +1,9 @@
--- Refusals: numbers with their conditions, in an order, of which the first that applies is given.
-use mathlib.Core.Bool.{Bool, false, not, cond}
-use mathlib.Core.List.{List, [], _∷_}
-use Prim.Native.Nat.{ℕ}
-use lib.Dec.{leb}
+-- The refusals of longitudes and of x: 3, 4 and 7.
 use lib.IntN.{ℤ}
-use lib.ListN.{length}
-use Rattle.projection.specs.declared.table.Row.{Row}
-use Rattle.projection.specs.Angle.{N, H, outside}
-use Rattle.projection.specs.Table.{rows}
-use Rattle.projection.specs.Parallel.{height}
-use Rattle.projection.specs.Inverse.{widthAt}
-
-pub record Refusal : Type 0 where
-  pub number : ℕ
-  pub applies : Bool
-
--- an answer as document 01 speaks of it: a refusal by its number, or what was asked for
-pub data Outcome (A : Type 0) : Type 0 where
-  refused : ℕ → Outcome A
-  given : A → Outcome A
-
--- what holds of the number where an answer is a refusal
-abbrev pub OfNumber : {A : Type 0} → (ℕ → Type 0) → Outcome A → Type 0
-OfNumber P (refused n) = P n
-OfNumber P (given a) = Unit {0}
-
--- the first refusal that applies, or else a
-unfoldable pub unless : {A : Type 0} → List Refusal → A → Outcome A
-unless [] a = given a
-unless (r ∷ rs) a = cond (r .applies) (refused (r .number)) (unless rs a)
-
--- a kind of the table
-unfoldable pub isKind : ℕ → Bool
-isKind kind = cond (leb 1 kind) (leb kind (length rows)) false
-
--- 1: kind is not 1..10
-abbrev pub badKind : ℕ → Refusal
-badKind kind = record { number = 1; applies = not (isKind kind) }
+use Rattle.angle.specs.Angle.{N, outside}
+use Rattle.parallel.specs.declared.table.Row.{Row}
+use Rattle.parallel.specs.Latitude.{widthAt}
+use Rattle.parallel.specs.Refusal.{Refusal}
 
 -- 3: central meridian outside 180 degrees either way
 abbrev pub badCentral : ℤ → Refusal
@@ -45,14 +12,6 @@ badCentral central = record { number = 3; applies = outside N central }
 -- 4: longitude outside 180 degrees either way
 abbrev pub badLongitude : ℤ → Refusal
 badLongitude longitude = record { number = 4; applies = outside N longitude }
-
--- 5: latitude outside 90 degrees either way
-abbrev pub badLatitude : ℤ → Refusal
-badLatitude latitude = record { number = 5; applies = outside H latitude }
-
--- 6: size of y greater than the pole's y, nearest to KY H / N
-abbrev pub badY : Row → ℤ → Refusal
-badY r y = record { number = 6; applies = outside (height r H) y }
 
 -- 7: size of x greater than W of the row found
 abbrev pub badX : Row → ℤ → ℤ → Refusal

@@ -3,9 +3,9 @@ ghost use mathlib.Core.Path.{_≡_};
 ghost use Prim.Native.Nat.{_*_, _≤_};
 ghost use lib.IntN.{pos, _+ℤ_, _-ℤ_};
 ghost use Rattle.whole.specs.Signed.{withSign, joinOf};
-ghost use Rattle.projection.specs.Angle.{N};
+ghost use Rattle.angle.specs.Angle.{N};
 ghost use Rattle.projection.specs.Longitude.{wrap, differenceOf};
-use super::angle::Angle;
+use angle::Angle;
 use whole::Signed;
 
 // A longitude less the central meridian, brought between -N and N.

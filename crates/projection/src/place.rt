@@ -1,21 +1,18 @@
 // Forward: the place of a position.
 ghost use mathlib.Core.Path.{_≡_};
-ghost use Prim.Native.Nat.{_≤_};
+ghost use Prim.Native.Nat.{_*_, _≤_, _<_};
 ghost use Rattle.whole.specs.Signed.{joinOf};
-ghost use Rattle.projection.specs.Angle.{N};
-ghost use Rattle.projection.specs.Refusal.{given};
-ghost use Rattle.projection.specs.Forward.{placeOf};
-ghost use Rattle.projection.specs.Columns.{Usable};
+ghost use Rattle.angle.specs.Angle.{N};
+ghost use Rattle.projection.specs.Longitude.{differenceOf};
+ghost use Rattle.projection.specs.Forward.{xOf};
 ghost use Rattle.projection.specs.Answer.{meaning, forwardOf};
-use super::angle::Angle;
 use super::answer::Answer;
-use super::answer::pair;
 use super::longitude::difference;
-use super::parallel::row_half_width;
 use super::scale::scaled;
-use super::table::Row;
-use super::table::is_kind;
-use super::table::row_of;
+use angle::Angle;
+use parallel::Parallel;
+use parallel::at_latitude;
+use parallel::is_kind;
 use whole::Signed;
 
 // The place at a position, angles in hundredths of an arcsecond; or the first refusal of 1, 3, 4 and 5.
@@ -33,19 +30,17 @@ pub fn forward(kind: u8, central: i32, longitude: i32, latitude: i32) -> Answer
     if longitude.outside(Angle::N) {
         return Answer::Refused(4);
     }
-    let latitude = Angle::new(latitude);
-    if latitude.outside(Angle::H) {
-        return Answer::Refused(5);
+    let parallel = at_latitude(kind, latitude);
+    match parallel {
+        Parallel::At(w, y) => Answer::Pair(x_on(w, central.count, longitude.count), y),
+        Parallel::Refused(n) => Answer::Refused(n),
     }
-    place(row_of(kind), central.count, longitude.count, latitude.count)
 }
 
-// The place of a row at a position.
-fn place(row: Row, central: Signed, longitude: Signed, latitude: Signed) -> Answer
-    requires { ⌜ Usable row (latitude .size) × (central .size ≤ N) × (longitude .size ≤ N) ⌝ }
-    ensures { λ r. ⌜ meaning r ≡ given (placeOf row (joinOf central) (joinOf longitude) (joinOf latitude)) ⌝ }
+// x at a longitude, on a parallel of half-width w.
+fn x_on(w: u32, central: Signed, longitude: Signed) -> i32
+    requires { ⌜ (w < 5 * N) × (central .size ≤ N) × (longitude .size ≤ N) ⌝ }
+    ensures { λ r. ⌜ r ≡ xOf w (differenceOf (joinOf central) (joinOf longitude)) ⌝ }
 {
-    let w = row_half_width(row, latitude.size);
-    let d = difference(central, longitude);
-    pair(scaled(w, d), scaled(row.ky, latitude))
+    scaled(w, difference(central, longitude)).join() as i32
 }

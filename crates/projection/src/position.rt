@@ -2,19 +2,17 @@
 ghost use mathlib.Core.Path.{_≡_};
 ghost use Prim.Native.Nat.{_≤_};
 ghost use Rattle.whole.specs.Signed.{joinOf};
-ghost use Rattle.projection.specs.Angle.{N};
-ghost use Rattle.projection.specs.Columns.{Columns};
-ghost use Rattle.projection.specs.Answer.{meaning, onRow, inverseOf};
-use super::angle::Angle;
+ghost use Rattle.angle.specs.Angle.{N};
+ghost use Rattle.projection.specs.Longitude.{longitudeOf};
+ghost use Rattle.projection.specs.Inverse.{differenceAt};
+ghost use Rattle.projection.specs.Answer.{meaning, inverseOf};
 use super::answer::Answer;
-use super::answer::pair;
 use super::longitude::sum;
-use super::parallel::row_half_width;
-use super::parallel::row_height;
 use super::scale::unscaled;
-use super::table::Row;
-use super::table::is_kind;
-use super::table::row_of;
+use angle::Angle;
+use parallel::Parallel;
+use parallel::at_y;
+use parallel::is_kind;
 use whole::Signed;
 
 // The position at a place, x and y in map units; or the first refusal of 1, 3, 6 and 7.
@@ -28,26 +26,23 @@ pub fn inverse(kind: u8, central: i32, x: i32, y: i32) -> Answer
     if central.outside(Angle::N) {
         return Answer::Refused(3);
     }
-    position(
-        row_of(kind),
-        central.count,
-        Signed::split(x),
-        Signed::split(y),
-    )
+    let parallel = at_y(kind, y);
+    match parallel {
+        Parallel::At(w, latitude) => {
+            let x = Signed::split(x);
+            if w < x.size {
+                return Answer::Refused(7);
+            }
+            Answer::Pair(longitude_on(w, central.count, x), latitude)
+        }
+        Parallel::Refused(n) => Answer::Refused(n),
+    }
 }
 
-// The position of a row at a place, or 6 or 7.
-fn position(row: Row, central: Signed, x: Signed, y: Signed) -> Answer
-    requires { ⌜ Columns row × (central .size ≤ N) ⌝ }
-    ensures { λ r. ⌜ meaning r ≡ onRow row (joinOf central) (joinOf x) (joinOf y) ⌝ }
+// The longitude at x, on a parallel of half-width w.
+fn longitude_on(w: u32, central: Signed, x: Signed) -> i32
+    requires { ⌜ (central .size ≤ N) × (x .size ≤ w) ⌝ }
+    ensures { λ r. ⌜ r ≡ longitudeOf (joinOf central) (differenceAt w (joinOf x)) ⌝ }
 {
-    if row_height(row, Angle::H) < y.size {
-        return Answer::Refused(6);
-    }
-    let latitude = unscaled(row.ky, y);
-    let w = row_half_width(row, latitude.size);
-    if w < x.size {
-        return Answer::Refused(7);
-    }
-    pair(sum(central, unscaled(w, x)), latitude)
+    sum(central, unscaled(w, x)).join() as i32
 }

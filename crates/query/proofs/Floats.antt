@@ -6,10 +6,10 @@ use lib.Dec.{ltb}
 use lib.IntN.{ℤ, pos, negsuc}
 use lib.Ieee.{Float, nan, inf, fin, binary64, isNan, unlike, up, down, odd, units, round, ofInt, div}
 use lib.Ieee.Fits.{round-is}
-use Rattle.projection.specs.Refusal.{Refusal, refused, unless}
+use Rattle.parallel.specs.Refusal.{Refusal, refused, unless}
 use Rattle.degrees.specs.Writing.{degreesOf, unitsOf}
-use Rattle.degrees.proofs.Written.{per-degree}
 use Rattle.degrees.specs.Answer.{forwardOf, inverseOf, forwardOrder, inverseOrder}
+use Rattle.degrees.proofs.Written.{per-degree}
 use Rattle.query.specs.Floats.{HasBits, HaveBits}
 
 odd-bits : (d : ℕ) (s : Bool) (q k l : ℕ) → HasBits (odd d s q k l)

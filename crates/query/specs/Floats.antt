@@ -2,7 +2,7 @@
 use mathlib.Core.Bool.{not}
 use lib.Dec.{T}
 use lib.Ieee.{Float, isNan}
-use Rattle.projection.specs.Refusal.{Outcome, refused, given}
+use Rattle.parallel.specs.Refusal.{Outcome, refused, given}
 
 abbrev pub HasBits : Float → Type 0
 HasBits x = T (not (isNan x))

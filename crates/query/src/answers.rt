@@ -11,8 +11,8 @@ use degrees::Degrees;
 use degrees::forward_degrees;
 use degrees::inverse_degrees;
 use libc::STDOUT_FILENO;
+use parallel::half_width;
 use projection::forward;
-use projection::half_width;
 use projection::inverse;
 
 // Answers a line that has ended.

@@ -3,8 +3,8 @@ ghost use Rattle.degrees.specs.Answer.{meaning};
 ghost use Rattle.query.specs.Floats.{HasBits, HaveBits};
 use degrees::FloatAnswer;
 use libc::STDOUT_FILENO;
+use parallel::Width;
 use projection::Answer;
-use projection::Width;
 use whole::Signed;
 
 pub(crate) fn write_width(width: Width) {

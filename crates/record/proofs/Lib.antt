@@ -1,4 +1,2 @@
 pub mod Orders
-pub mod Counted
 pub mod Stored
-pub mod Histories

@@ -1,5 +1,5 @@
--- The answer of each call on a record, refusal by refusal in its order.
-use mathlib.Core.Bool.{true, false, not}
+-- What a record is answered, refusal by refusal in its order.
+use mathlib.Core.Bool.{Bool, true, false, not, cond}
 use mathlib.Core.List.{List}
 use mathlib.Core.Path.{_≡_, sym, subst}
 use Prim.Native.Nat.{ℕ}
@@ -8,16 +8,19 @@ use borrow.Author.Tests.{eq-eqb, ne-eqb}
 use lib.Dec.{T, eqb, eqb→eq}
 use lib.IntN.{ℤ}
 use lib.ListN.{getD}
-use Rattle.projection.specs.Refusal.{Outcome, refused, given, unless}
-use Rattle.projection.specs.Answer.{forwardOf, inverseOf}
-use Rattle.projection.proofs.Every.{conj}
-use Rattle.projection.proofs.Judged.{not-false}
-use Rattle.projection.proofs.Orders.{Applies, Passes}
-use Rattle.record.specs.declared.session.Session.{Session}
+use Rattle.angle.proofs.Judged.{not-false}
+use Rattle.parallel.specs.Refusal.{Outcome, refused, given, unless}
+use Rattle.parallel.proofs.Every.{conj}
+use Rattle.parallel.proofs.Orders.{Applies, Passes, OfNumbers}
+use Rattle.projection.specs.Answer.{forwardOrder, inverseOrder, forwardOf, inverseOf}
 use Rattle.record.specs.Record.{size, mark, position, place, hasMark, kindIn, formIn, centralIn, firstIn, secondIn, movedOf}
 use Rattle.record.specs.Refusal.{bothOfSize, badPieces, badMark}
 use Rattle.record.specs.Answer.{pairOrder, pairOf, judgedOf, convertOf, outputAfter}
-use Rattle.record.specs.Session.{full, feedOf}
+
+-- the same is made of equal numbers
+pub at-numbers : {A : Type 0} (make : ℕ → ℤ → ℤ → ℤ → A) {n n' : ℕ} {c c' f f' s s' : ℤ} → n ≡ n' → c ≡ c' → f ≡ f' → s ≡ s' →
+    make n c f s ≡ make n' c' f' s'
+at-numbers make n c f s = rw (n, c, f, s)
 
 module _ (bytes : List ℕ) where
   pub judged-9 : Applies (badMark bytes) → refused 9 ≡ judgedOf bytes
@@ -48,18 +51,16 @@ module _ (input : List ℕ) (output : ℕ) where
   unfolding convertOf judgedOf unless
   converted b = rw b
 
-module _ (session : Session) (input : List ℕ) (output : ℕ) where
-  pub fed-8 : Applies (badPieces input output) → refused 8 ≡ feedOf session input output
-  unfolding feedOf unless
-  fed-8 b = rw b
-
-  pub fed-11 : Passes (badPieces input output) → Applies (full session) → refused 11 ≡ feedOf session input output
-  unfolding feedOf unless
-  fed-11 b f = rw (b, f)
-
-  pub fed : Passes (badPieces input output) → Passes (full session) → judgedOf input ≡ feedOf session input output
-  unfolding feedOf judgedOf unless
-  fed b f = rw (b, f)
+-- what holds of a position's and of a place's numbers holds of the numbers of the pair that a record holds
+pub pair-numbers : (P : ℕ → Type 0) (bytes : List ℕ) → P 1 → P 3 → P 4 → P 5 → P 6 → P 7 → OfNumbers P (pairOrder bytes)
+unfolding pairOrder
+pair-numbers P bytes p1 p3 p4 p5 p6 p7 = go (eqb (formIn bytes) position)
+  where
+    go : (b : Bool) →
+        OfNumbers P (cond b (forwardOrder (kindIn bytes) (centralIn bytes) (firstIn bytes) (secondIn bytes))
+        (inverseOrder (kindIn bytes) (centralIn bytes) (firstIn bytes) (secondIn bytes)))
+    go true = (p1, (p3, (p4, (p5, tt))))
+    go false = (p1, (p3, (p6, (p7, tt))))
 
 -- two pieces that pass are of a record's length
 pub sizes : (input output : ℕ) → not (bothOfSize input output) ≡ false → (input ≡ size) × (output ≡ size)

@@ -4,10 +4,10 @@ use mathlib.Core.List.{List, _∷_}
 use Prim.Native.Nat.{ℕ}
 use lib.Dec.{eqb}
 use lib.IntN.{ℤ}
-use Rattle.projection.specs.Table.{rowOf}
+use Rattle.parallel.specs.Table.{rowOf}
+use Rattle.parallel.specs.Refusal.{Refusal, Outcome, refused, given, unless}
 use Rattle.projection.specs.Forward.{placeOf}
 use Rattle.projection.specs.Inverse.{positionOf}
-use Rattle.projection.specs.Refusal.{Refusal, Outcome, refused, given, unless}
 use Rattle.projection.specs.Answer.{forwardOrder, inverseOrder}
 use Rattle.record.specs.Record.{position, kindIn, formIn, centralIn, firstIn, secondIn, movedOf}
 use Rattle.record.specs.Refusal.{badPieces, badMark, badForm}

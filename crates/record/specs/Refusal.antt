@@ -4,7 +4,7 @@ use mathlib.Core.List.{List}
 use Prim.Native.Nat.{ℕ}
 use lib.Dec.{eqb}
 use lib.ListN.{length}
-use Rattle.projection.specs.Refusal.{Refusal}
+use Rattle.parallel.specs.Refusal.{Refusal}
 use Rattle.record.specs.Record.{size, position, place, hasMark, formIn}
 
 -- both pieces are of 16 bytes: the input, and the output by its length

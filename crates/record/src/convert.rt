@@ -13,7 +13,6 @@ use super::layout::POSITION;
 use super::layout::SECOND;
 use super::layout::both_of_size;
 use super::layout::has_mark;
-use super::layout::other_form;
 use super::layout::write;
 use little_endian::get;
 use projection::Answer;
@@ -28,30 +27,11 @@ pub fn convert_record(input: &[u8], output: &mut [u8]) -> Answer
     if !both_of_size(input.len(), output.len()) {
         return Answer::Refused(8);
     }
-    convert(input, output)
-}
-
-// The same for two pieces of a record's length.
-pub(crate) fn convert(input: &[u8], output: &mut [u8]) -> Answer
-    requires { ⌜ (length (now input) ≡ size) × (length (now output) ≡ size) ⌝ }
-    ensures { λ r. ⌜ meaning r ≡ judgedOf (now (input .entry)) ⌝ }
-    ensures { λ _. ⌜ now (output .exit) ≡ outputAfter (now (input .entry)) (now (output .entry)) (judgedOf (now (input .entry))) ⌝ }
-{
     let answer = judge(input);
-    match answer {
-        Answer::Pair(first, second) => {
-            write(
-                output,
-                input[KIND],
-                other_form(input[FORM]),
-                get(input, CENTRAL),
-                first,
-                second,
-            );
-            Answer::Pair(first, second)
-        }
-        Answer::Refused(n) => Answer::Refused(n),
+    if let Answer::Pair(first, second) = answer {
+        write(input, output, first, second);
     }
+    answer
 }
 
 // What a record is answered by its own bytes.
@@ -67,11 +47,9 @@ fn judge(input: &[u8]) -> Answer
     let central = get(input, CENTRAL);
     let first = get(input, FIRST);
     let second = get(input, SECOND);
-    if form == POSITION {
-        return forward(kind, central, first, second);
+    match form {
+        POSITION => forward(kind, central, first, second),
+        PLACE => inverse(kind, central, first, second),
+        _ => Answer::Refused(10),
     }
-    if form == PLACE {
-        return inverse(kind, central, first, second);
-    }
-    Answer::Refused(10)
 }

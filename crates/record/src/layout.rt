@@ -1,14 +1,18 @@
 // The layout of a record: which byte holds what.
 ghost use mathlib.Core.Path.{_≡_};
 ghost use lib.ListN.{length};
-ghost use Rattle.record.specs.Record.{size, otherForm, recordOf, hasMark};
+ghost use Rattle.record.specs.Record.{size, otherForm, movedOf, hasMark};
 ghost use Rattle.record.specs.Refusal.{bothOfSize};
+use little_endian::get;
 use little_endian::put;
 
 // The length of a record.
 pub const SIZE: usize = 16;
 
-const MARK: [u8; 2] = [0x4D, 0xD2];
+// The mark's two bytes.
+const MARK_0: u8 = 0x4D;
+
+const MARK_1: u8 = 0xD2;
 
 // The two forms.
 pub(crate) const POSITION: u8 = 0;
@@ -27,10 +31,10 @@ pub(crate) const FIRST: usize = 8;
 pub(crate) const SECOND: usize = 12;
 
 // Whether two pieces of these lengths are of a record's length.
-pub(crate) fn both_of_size(input: usize, output: usize) -> bool
+pub fn both_of_size(input: usize, output: usize) -> bool
     ensures { λ r. ⌜ r ≡ bothOfSize input output ⌝ }
 {
-    if input == SIZE { output == SIZE } else { false }
+    input == SIZE && output == SIZE
 }
 
 // Whether a record begins with the mark.
@@ -38,11 +42,7 @@ pub(crate) fn has_mark(bytes: &[u8]) -> bool
     requires { ⌜ length (now bytes) ≡ size ⌝ }
     ensures { λ r. ⌜ r ≡ hasMark (now (bytes .entry)) ⌝ }
 {
-    if bytes[0] == MARK[0] {
-        bytes[1] == MARK[1]
-    } else {
-        false
-    }
+    bytes[0] == MARK_0 && bytes[1] == MARK_1
 }
 
 pub(crate) fn other_form(form: u8) -> u8
@@ -51,16 +51,16 @@ pub(crate) fn other_form(form: u8) -> u8
     if form == POSITION { PLACE } else { POSITION }
 }
 
-// Writes a record.
-pub(crate) fn write(bytes: &mut [u8], kind: u8, form: u8, central: i32, first: i32, second: i32)
-    requires { ⌜ length (now bytes) ≡ size ⌝ }
-    ensures { λ _. ⌜ now (bytes .exit) ≡ recordOf kind form central first second ⌝ }
+// Writes the record that `input` is moved to, with the converted pair.
+pub(crate) fn write(input: &[u8], output: &mut [u8], first: i32, second: i32)
+    requires { ⌜ (length (now input) ≡ size) × (length (now output) ≡ size) ⌝ }
+    ensures { λ _. ⌜ now (output .exit) ≡ movedOf (now (input .entry)) (first, second) ⌝ }
 {
-    bytes[0] = MARK[0];
-    bytes[1] = MARK[1];
-    bytes[KIND] = kind;
-    bytes[FORM] = form;
-    put(bytes, CENTRAL, central);
-    put(bytes, FIRST, first);
-    put(bytes, SECOND, second);
+    output[0] = MARK_0;
+    output[1] = MARK_1;
+    output[KIND] = input[KIND];
+    output[FORM] = other_form(input[FORM]);
+    put(output, CENTRAL, get(input, CENTRAL));
+    put(output, FIRST, first);
+    put(output, SECOND, second);
 }

@@ -1,9 +1,7 @@
-// The record of 16 bytes, converted from a lent piece into a lent piece, and the session that counts what it is fed.
+// The record of 16 bytes, converted from a lent piece into a lent piece.
 mod convert;
 mod layout;
-mod session;
 
 pub use convert::convert_record;
 pub use layout::SIZE;
-pub use session::Fed;
-pub use session::Session;
+pub use layout::both_of_size;

@@ -7,14 +7,14 @@ use native.Mathlib.Numerals.{add-one}
 use native.Mathlib.Omega.{arith}
 use lib.ListN.{take, drop}
 use Rattle.projection.specs.Answer.{meaning}
-use Rattle.record.specs.declared.session.Session.{Session}
-use Rattle.record.specs.declared.session.Fed.{Fed}
 use Rattle.record.specs.Record.{size}
-use Rattle.record.specs.Session.{feedOf, sessionAfter}
-use Rattle.report.specs.Buffer.{Put}
-use Rattle.report.specs.Line.{lineOf}
+use Rattle.session.specs.declared.Session.{Session}
+use Rattle.session.specs.declared.Fed.{Fed}
+use Rattle.session.specs.Session.{feedOf, sessionAfter}
+use Rattle.lines.specs.Buffer.{Put}
+use Rattle.lines.specs.Line.{lineOf}
+use Rattle.lines.proofs.Buffers.{put-none, put-behind}
 use Rattle.report.specs.Block.{recordAt, answerAt, sessionAt, linesOf, SessionsCompose, LinesCompose}
-use Rattle.report.proofs.Buffers.{put-none, put-twice}
 
 -- ---- one record after the other
 
@@ -44,7 +44,7 @@ one-more {t} {s} {l} {i} p fed room e heard after put =
     let u : Session = sessionAt t s 0 i in
     let h : meaning (fed .answer) ≡ feedOf u (recordAt s i) size = heard ∙ rw (p .session, piece-is s i, e) in
     let a : fed .session ≡ sessionAfter u (feedOf u (recordAt s i) size) = after ∙ rw (p .session, piece-is s i, e) in
-    rw (add-one i) (record { session = rw (zero-add i) a; lines = rw (zero-add i) (put-twice (omega arith) (p .lines) (rw h at put)) })
+    rw (add-one i) (record { session = rw (zero-add i) a; lines = rw (zero-add i) (put-behind (p .lines) (rw h at put)) })
 
 -- ---- blocks compose
 

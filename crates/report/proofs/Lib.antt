@@ -1,4 +1,2 @@
-pub mod Decimals
-pub mod Buffers
 pub mod Blocks
 pub mod Streams

@@ -8,21 +8,21 @@ use native.Mathlib.Omega.{arith}
 use borrow.Author.Tests.{le-leb, lt-leb, ne-eqb}
 use lib.ListN.{length, take, drop, length-append, length-drop}
 use lib.Seq.{length-take-le, take-append-le, drop-append-le, drop-drop}
-use Rattle.projection.specs.Refusal.{unless}
+use Rattle.parallel.specs.Refusal.{unless}
 use Rattle.projection.specs.Answer.{meaning}
-use Rattle.record.specs.declared.session.Session.{Session}
-use Rattle.record.specs.declared.session.Fed.{Fed}
 use Rattle.record.specs.Record.{size}
-use Rattle.record.specs.Session.{opened, feedOf, sessionAfter}
-use Rattle.record.specs.History.{sessionOf}
+use Rattle.session.specs.declared.Session.{Session}
+use Rattle.session.specs.declared.Fed.{Fed}
+use Rattle.session.specs.Session.{opened, feedOf, sessionAfter}
+use Rattle.session.specs.History.{sessionOf}
+use Rattle.lines.specs.declared.buffer.Text.the-variants.{Bytes, TooShort}
+use Rattle.lines.specs.Buffer.{putFront}
+use Rattle.lines.specs.Line.{lineOf, closingOf, lineRoom}
+use Rattle.lines.proofs.Buffers.{too-short, was-placed, was-too-short}
 use Rattle.report.specs.declared.block.Block.{Block}
 use Rattle.report.specs.declared.stream.Taken.{Taken}
-use Rattle.report.specs.declared.buffer.Text.the-variants.{Bytes, TooShort}
-use Rattle.report.specs.Buffer.{putFront}
-use Rattle.report.specs.Line.{lineOf, closingOf, lineRoom}
 use Rattle.report.specs.Block.{recordAt, answerAt, sessionAt, linesOf, recordsIn, tailOf, blockSession, blockLines, blockFits, Converted}
 use Rattle.report.specs.Program.{endOf, printedFrom, printedOf, printedBy, joined, ReadsDoNotMatter, TailRefused, callsOf, SessionOfHistory, takes, Took}
-use Rattle.report.proofs.Buffers.{too-short, was-placed, was-too-short}
 use Rattle.report.proofs.Blocks.{sessions-compose, lines-compose, same-session, same-lines}
 
 -- ---- bytes that come behind others

@@ -6,13 +6,13 @@ use Prim.Native.Nat.{ℕ, zero, suc, _+_, _*_, _/_}
 use lib.Dec.{leb}
 use lib.IntN.{ℤ}
 use lib.ListN.{length, take, drop}
-use Rattle.projection.specs.Refusal.{Outcome}
-use Rattle.record.specs.declared.session.Session.{Session}
+use Rattle.parallel.specs.Refusal.{Outcome}
 use Rattle.record.specs.Record.{size}
-use Rattle.record.specs.Session.{feedOf, sessionAfter}
+use Rattle.session.specs.declared.Session.{Session}
+use Rattle.session.specs.Session.{feedOf, sessionAfter}
+use Rattle.lines.specs.Buffer.{Placed}
+use Rattle.lines.specs.Line.{lineOf, lineRoom}
 use Rattle.report.specs.declared.block.Block.{Block}
-use Rattle.report.specs.Buffer.{Placed}
-use Rattle.report.specs.Line.{lineOf, lineRoom}
 
 -- record number i, counted from 0
 unfoldable pub recordAt : List ℕ → ℕ → List ℕ

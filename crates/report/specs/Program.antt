@@ -5,14 +5,14 @@ use mathlib.Core.List.{List, [], _∷_, _++_}
 use Prim.Native.Nat.{ℕ, zero, suc, _+_, _<_}
 use lib.Dec.{leb}
 use lib.ListN.{length, take}
-use Rattle.projection.specs.Refusal.{refused}
-use Rattle.record.specs.declared.session.Session.{Session}
+use Rattle.parallel.specs.Refusal.{refused}
 use Rattle.record.specs.Record.{size}
-use Rattle.record.specs.Session.{opened, feedOf, sessionAfter}
-use Rattle.record.specs.History.{Call, sessionOf}
+use Rattle.session.specs.declared.Session.{Session}
+use Rattle.session.specs.Session.{opened, feedOf, sessionAfter}
+use Rattle.session.specs.History.{Call, sessionOf}
+use Rattle.lines.specs.Buffer.{Placed, putFront}
+use Rattle.lines.specs.Line.{lineOf, closingOf, lineRoom, closingRoom}
 use Rattle.report.specs.declared.stream.Taken.{Taken}
-use Rattle.report.specs.Buffer.{Placed, putFront}
-use Rattle.report.specs.Line.{lineOf, closingOf, lineRoom, closingRoom}
 use Rattle.report.specs.Block.{recordAt, recordsIn, tailOf, blockSession, blockLines, blockFits}
 
 -- the end: the line of a tail that is not empty, which the session answers, and the closing line

@@ -1,10 +1,16 @@
 // The whole records of a run of bytes, fed one after the other.
+ghost use Prim.Native.Nat.{_+_, _≤_};
+ghost use lib.ListN.{length};
+ghost use Rattle.projection.specs.Answer.{meaning};
+ghost use Rattle.lines.specs.Buffer.{Put};
+ghost use Rattle.lines.specs.Line.{lineOf, lineRoom};
 ghost use Rattle.report.specs.Block.{Converted};
-use super::buffer::Text;
-use super::line::LINE_ROOM;
-use super::line::put_line;
+use lines::LINE_ROOM;
+use lines::Text;
+use lines::answer_line;
+use projection::Answer;
 use record::SIZE;
-use record::Session;
+use session::Session;
 
 // What a block came to: the session after it, and its lines.
 pub struct Block {
@@ -33,11 +39,25 @@ pub fn convert_block(session: Session, input: &[u8], text: &mut [u8]) -> Block
         let fed = state.feed(&input[from..from + SIZE], &mut output);
         state = fed.session;
         let answer = fed.answer;
-        end = put_line(text, end, answer);
+        end = line_at(text, end, answer);
         i += 1;
     }
     Block {
         session: state,
         text: Text::Bytes(end),
+    }
+}
+
+// Puts the line of an answer at a place with the room for it, and answers the place behind it. No more than that room is
+// lent, so that the line ends within it.
+pub(crate) fn line_at(text: &mut [u8], at: usize, answer: Answer) -> usize
+    requires { ⌜ at + lineRoom ≤ length (now text) ⌝ }
+    ensures { λ r. ⌜ Put (now (text .entry)) at (lineOf (meaning answer)) r (now (text .exit)) ⌝ }
+    ensures { λ r. ⌜ r ≤ at + lineRoom ⌝ }
+{
+    let line = answer_line(answer, &mut text[at..at + LINE_ROOM]);
+    match line {
+        Text::Bytes(count) => at + count,
+        Text::TooShort => at,
     }
 }

@@ -1,19 +1,23 @@
 // A stream of bytes that comes in pieces, and its last lines.
 ghost use mathlib.Core.Path.{_≡_};
+ghost use mathlib.Core.Bool.{true};
 ghost use mathlib.Core.List.{_++_};
 ghost use Prim.Native.Nat.{_-_, _≤_};
 ghost use lib.Dec.{leb};
 ghost use lib.ListN.{length, take, drop};
-ghost use Rattle.report.specs.Buffer.{Placed};
+ghost use Rattle.projection.specs.Answer.{meaning};
+ghost use Rattle.lines.specs.Buffer.{Placed};
+ghost use Rattle.lines.specs.Line.{lineOf, closingOf};
 ghost use Rattle.report.specs.Program.{Took, endRoom, endOf};
 use super::block::convert_block;
-use super::buffer::Text;
-use super::line::CLOSING_ROOM;
-use super::line::LINE_ROOM;
-use super::line::put_closing;
-use super::line::put_line;
+use super::block::line_at;
+use lines::CLOSING_ROOM;
+use lines::LINE_ROOM;
+use lines::Text;
+use lines::closing_line;
+use projection::Answer;
 use record::SIZE;
-use record::Session;
+use session::Session;
 
 // What the bytes of a read came to: the session after them, how many are held over at the front of the buffer, and the
 // lines.
@@ -78,14 +82,23 @@ pub fn last_lines(session: Session, tail: &[u8], text: &mut [u8]) -> Text
         return Text::TooShort;
     }
     if tail.len() == 0 {
-        let end = put_closing(text, 0, session);
-        return Text::Bytes(end);
+        return closing_line(session, text);
     }
     let mut output = [0u8; SIZE];
     let fed = session.feed(tail, &mut output);
     let answer = fed.answer;
-    let next = fed.session;
-    let line = put_line(text, 0, answer);
-    let end = put_closing(text, line, next);
-    Text::Bytes(end)
+    two_lines(answer, fed.session, text)
+}
+
+// Puts the line of an answer, and the closing line behind it, at the front of a text with the room for both.
+fn two_lines(answer: Answer, session: Session, text: &mut [u8]) -> Text
+    requires { ⌜ endRoom ≤ length (now text) ⌝ }
+    ensures { λ r. ⌜ Placed true (lineOf (meaning answer) ++ closingOf session) (now (text .entry)) r (now (text .exit)) ⌝ }
+{
+    let line = line_at(text, 0, answer);
+    let closing = closing_line(session, &mut text[line..]);
+    match closing {
+        Text::Bytes(count) => Text::Bytes(line + count),
+        Text::TooShort => Text::TooShort,
+    }
 }

@@ -2,8 +2,8 @@
 use mathlib.Core.List.{List, [], _∷_}
 use Prim.Native.Nat.{ℕ}
 use lib.ListN.{getD}
-use Rattle.projection.specs.Refusal.{Outcome, refused, given}
-use Rattle.record.specs.declared.session.Session.{Session}
+use Rattle.parallel.specs.Refusal.{Outcome, refused, given}
+use Rattle.session.specs.declared.Session.{Session}
 
 -- 0 for converted, else the refusal's number
 abbrev pub statusOf : {A : Type 0} → Outcome A → ℕ

@@ -3,11 +3,11 @@ ghost use mathlib.Core.Path.{_≡_};
 ghost use lib.ListN.{length};
 ghost use Rattle.projection.specs.Answer.{meaning};
 ghost use Rattle.record.specs.Answer.{convertOf, outputAfter};
-ghost use Rattle.record.specs.Session.{feedOf, sessionAfter};
+ghost use Rattle.session.specs.Session.{feedOf, sessionAfter};
 ghost use Rattle.uldaseong.specs.Status.{statusOf, sessionIn, countsOf};
 use projection::Answer;
-use record::Session;
 use record::convert_record;
+use session::Session;
 
 #[no_mangle]
 pub extern "C" fn uldaseong_convert_record(input: &[u8], output: &mut [u8]) -> u8

@@ -15,34 +15,36 @@ use Rattle.whole.specs.Root.{root, rootIn}
 use Rattle.whole.proofs.Rounding.{near, nearest-zero, half}
 use Rattle.whole.proofs.Squares.{root-is}
 use Rattle.whole.proofs.Signs.{natAbs-on, on-neg}
-use Rattle.projection.specs.declared.table.Row.{Row}
-use Rattle.projection.specs.Angle.{N, M}
-use Rattle.projection.specs.Table.{rows, rowOf}
-use Rattle.projection.specs.Parallel.{radicand, rootBy, rootAt, numerator, halfWidth, height}
+use Rattle.angle.specs.Angle.{N, M}
+use Rattle.parallel.specs.declared.table.Row.{Row}
+use Rattle.parallel.specs.Table.{rows, rowOf}
+use Rattle.parallel.specs.Parallel.{radicand, rootBy, rootAt, numerator, halfWidth, height}
+use Rattle.parallel.specs.Columns.{combined, Usable}
+use Rattle.parallel.specs.Latitude.{yOf}
+use Rattle.parallel.specs.Refusal.{given, isKind, unless}
+use Rattle.parallel.specs.Answer.{widthOrder, widthOf}
+use Rattle.parallel.proofs.Rows.{kind-range, columns}
+use Rattle.parallel.proofs.Widths.{combined-whole, radicand-whole, numerator-whole, width-small}
 use Rattle.projection.specs.Longitude.{wrap}
-use Rattle.projection.specs.Columns.{combined, Usable}
-use Rattle.projection.specs.Forward.{xOf, yOf, placeOf}
-use Rattle.projection.specs.Refusal.{given, isKind, unless}
+use Rattle.projection.specs.Forward.{xOf, placeOf}
 use Rattle.projection.specs.Inverse.{positionOf}
-use Rattle.projection.specs.Answer.{widthOrder, forwardOrder, inverseOrder, widthOf, forwardOf, inverseOf}
-use Rattle.projection.proofs.Rows.{kind-range, columns}
-use Rattle.projection.proofs.Widths.{combined-whole, radicand-whole, numerator-whole, width-small}
-use Rattle.degrees.specs.Reading.{readOf, centiseconds, units}
+use Rattle.projection.specs.Answer.{forwardOrder, inverseOrder, forwardOf, inverseOf}
+use Rattle.reading.specs.Reading.{readOf, centiseconds, units}
 use Rattle.degrees.specs.Writing.{degreesOf, unitsOf}
 use Rattle.degrees.specs.Answer.{writtenPlace, writtenPosition, forwardOrder as forwardDegreesOrder, inverseOrder as inverseDegreesOrder, forwardOf as forwardDegrees, inverseOf as inverseDegrees}
 use Rattle.degrees.proofs.Written.{degrees-stand, units-stand}
 use Rattle.little_endian.specs.Number.{bytesOf, numberAt}
 use Rattle.record.specs.Record.{recordOf, movedOf}
 use Rattle.record.specs.Answer.{pairOrder, pairOf, convertOrder, convertOf, outputAfter}
-use Rattle.record.specs.Session.{opened, cap, feedOrder, feedOf, sessionAfter}
-use Rattle.record.specs.History.{answersOf, sessionOf}
-use Rattle.record.proofs.Orders.{converted, fed}
-use Rattle.record.proofs.Histories.{answers-alike, agrees}
-use Rattle.report.specs.Decimal.{digitsIn, decimalOf, numberText}
-use Rattle.report.specs.Line.{lineOf, closingOf}
+use Rattle.session.specs.Session.{opened, cap, feedOrder, feedOf, sessionAfter}
+use Rattle.session.specs.History.{answersOf, sessionOf}
+use Rattle.session.proofs.Orders.{fed}
+use Rattle.session.proofs.Histories.{answers-alike, agrees}
+use Rattle.lines.specs.Decimal.{digitsIn, decimalOf, numberText}
+use Rattle.lines.specs.Line.{lineOf, closingOf}
+use Rattle.lines.proofs.Decimals.{is-decimal}
 use Rattle.report.specs.Block.{recordAt, answerAt, sessionAt, linesOf, tailOf, blockSession, blockLines}
 use Rattle.report.specs.Program.{endOf, printedFrom, printedOf}
-use Rattle.report.proofs.Decimals.{is-decimal}
 use Rattle.report.proofs.Blocks.{sessions-compose, lines-compose}
 use Rattle.report.proofs.Streams.{reads-do-not-matter, tail-refused, session-of-history}
 use Rattle.claims.specs.Arithmetic.{Arithmetic}
@@ -185,7 +187,7 @@ arithmetic =
     }
 
 fed-answer : feedOf opened input 16 ≡ given (pos 157079633, pos 78539816)
-fed-answer = sym (fed opened input 16 refl refl) ∙ converted input 16 refl ∙ record-answer
+fed-answer = sym (fed opened input 16 refl) ∙ record-answer
 
 printing : Printing
 unfolding printedOf printedFrom blockLines blockSession tailOf linesOf sessionAt answerAt recordAt endOf lineOf closingOf sessionAfter numberText decimalOf digitsIn

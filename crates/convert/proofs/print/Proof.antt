@@ -7,8 +7,8 @@ use borrow.Author.Needs.{needs}
 use denote.Ref.{now}
 use lib.ListN.{length, take}
 use lib.Seq.{length-take-le}
-use Rattle.report.specs.declared.buffer.Text.{Text}
-use Rattle.report.specs.declared.buffer.Text.the-variants.{Bytes}
+use Rattle.lines.specs.declared.buffer.Text.{Text}
+use Rattle.lines.specs.declared.buffer.Text.the-variants.{Bytes}
 use Rattle.convert.specs.Phase.{afterWrite, NotEnded}
 use Rattle.convert.specs.Room.{Within}
 use Rattle.convert.proofs.print.Statement.{statement}

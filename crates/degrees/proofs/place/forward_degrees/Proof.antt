@@ -1,18 +1,17 @@
 -- `degrees::place::forward_degrees` meets its contract: its tests are the conditions of the refusals, in their order, and
 -- the rest is answered by `forward` at the numbers read.
+use mathlib.Core.Bool.{not}
 use mathlib.Core.Path.{_≡_, sym, ap, _∙_}
-use native.Mathlib.Omega.{arith}
 use borrow.Author.Needs.{needs}
 use borrow.Author.Tests.{not-true, not-false}
-use lib.Ieee.Scale.{finite}
-use Rattle.projection.specs.Refusal.{unless, badKind}
+use lib.Dec.{lit≤}
+use Rattle.parallel.specs.Refusal.{badKind, onGiven}
+use Rattle.parallel.proofs.Orders.{Passes}
 use Rattle.projection.specs.Answer.{meaning, forwardOf as forwardNumbers}
-use Rattle.projection.proofs.Orders.{Passes}
-use Rattle.degrees.specs.Reading.{perDegree, centiseconds}
+use Rattle.reading.specs.Reading.{centiseconds}
 use Rattle.degrees.specs.Refusal.{badCentral, badLongitude, badLatitude}
-use Rattle.degrees.specs.Answer.{onGiven, writtenPlace, forwardOf}
-use Rattle.degrees.proofs.Floats.{read-within, limit-180, limit-90}
-use Rattle.degrees.proofs.Orders.{Finite, all-finite, any-bad}
+use Rattle.degrees.specs.Answer.{writtenPlace, forwardOf}
+use Rattle.degrees.proofs.Orders.{Finite, all-finite, limit-180, limit-90, refused-1, refused-2, refused-3, forward-4, forward-5}
 use Rattle.degrees.proofs.Numbers.{angle-back, forward-numbers}
 use Rattle.degrees.proofs.place.forward_degrees.Statement.{statement}
 use Rattle.degrees.proofs.place.forward_degrees.Tie as tie
@@ -35,7 +34,7 @@ start5 c = start4 (c .before .before)
 
 -- a test that is passed is the condition of its refusal, which does not hold
 kind-good : (c : tie.Else1) → Passes (badKind (start1 c .args .kind))
-kind-good c = rw (c .before .is-kind .ensures) at (c .if1 .left)
+kind-good c = sym (ap not (c .before .is-kind .ensures)) ∙ c .if1 .left
 
 all-good : (c : tie.Else2) → let s = start2 c .args in Finite (s .central) (s .at .longitude) (s .at .latitude)
 all-good c =
@@ -44,13 +43,13 @@ all-good c =
     (sym (c .before .all-finite .ensures) ∙ not-false (c .before .all-finite .result) (c .if2 .left))
 
 central-good : (c : tie.Else3) → Passes (badCentral (start3 c .args .central))
-central-good c = sym (c .before .outside .ensures ∙ limit-180 (start3 c .args .central)) ∙ c .if3 .left
+central-good c = limit-180 (start3 c .args .central) (c .before .outside .ensures) ∙ c .if3 .left
 
 longitude-good : (c : tie.Else4) → Passes (badLongitude (start4 c .args .at .longitude))
-longitude-good c = sym (c .before .outside2 .ensures ∙ limit-180 (start4 c .args .at .longitude)) ∙ c .if4 .left
+longitude-good c = limit-180 (start4 c .args .at .longitude) (c .before .outside2 .ensures) ∙ c .if4 .left
 
 latitude-good : (c : tie.Else5) → Passes (badLatitude (start5 c .args .at .latitude))
-latitude-good c = sym (c .before .outside3 .ensures ∙ limit-90 (start5 c .args .at .latitude)) ∙ c .if5 .left
+latitude-good c = limit-90 (start5 c .args .at .latitude) (c .before .outside3 .ensures) ∙ c .if5 .left
 
 -- what all tests together say, once the last is passed
 record Judged (c : tie.Else5) : Type 0 where
@@ -82,59 +81,50 @@ answered c =
     let c5 = c .before .before .before .before in
     let s = start5 c5 .args in
     let j = judged c5 in
-    let m = angle-back (s .central) (read-within 180 perDegree (s .central) (j .central)) (c .before .before .before .centiseconds .ensures) in
-    let l = angle-back (s .at .longitude) (read-within 180 perDegree (s .at .longitude) (j .longitude)) (c .before .before .centiseconds2 .ensures) in
-    let f = angle-back (s .at .latitude) (omega (arith, read-within 90 perDegree (s .at .latitude) (j .latitude))) (c .before .centiseconds3 .ensures) in
+    let m = angle-back 180 (s .central) (lit≤ tt) (j .central) (c .before .before .before .centiseconds .ensures) in
+    let l = angle-back 180 (s .at .longitude) (lit≤ tt) (j .longitude) (c .before .before .centiseconds2 .ensures) in
+    let f = angle-back 90 (s .at .latitude) (lit≤ tt) (j .latitude) (c .before .centiseconds3 .ensures) in
     rw (m, l, f) at (c .forward .ensures)
 
 returns : tie.Need-returns
-unfolding forwardOf unless
-returns c = rw (← c .before .is-kind .ensures, c .if1 .taken)
+unfolding forwardOf
+returns c =
+    let s = c .before .before .args in
+    refused-1 (s .kind) (s .central) (s .at .longitude) (s .at .latitude) _ _
+    (sym (ap not (c .before .is-kind .ensures)) ∙ c .if1 .taken)
 
 returns-2 : tie.Need-returns-2
-unfolding forwardOf unless
+unfolding forwardOf
 returns-2 c =
-    let s = start1 (c .before .before) .args in
-    rw (kind-good (c .before .before))
-    (any-bad _ (finite (s .central)) (finite (s .at .longitude)) (finite (s .at .latitude))
-    (sym (c .before .all-finite .ensures) ∙ not-true (c .before .all-finite .result) (c .if2 .taken)))
+    let c1 = c .before .before in
+    let s = start1 c1 .args in
+    refused-2 (s .kind) (s .central) (s .at .longitude) (s .at .latitude) _ _ (kind-good c1)
+    (sym (c .before .all-finite .ensures) ∙ not-true (c .before .all-finite .result) (c .if2 .taken))
 
 returns-3 : tie.Need-returns-3
-unfolding forwardOf unless
+unfolding forwardOf
 returns-3 c =
     let c2 = c .before .before in
-    let h = all-good c2 in
-    rw (kind-good (c2 .before .before), h .first, h .second, h .third, ← limit-180 (start2 c2 .args .central), ← c .before .outside .ensures, c .if3 .taken)
+    let s = start2 c2 .args in
+    refused-3 (s .kind) (s .central) (s .at .longitude) (s .at .latitude) _ _ (kind-good (c2 .before .before)) (all-good c2)
+    (limit-180 (s .central) (c .before .outside .ensures) ∙ c .if3 .taken)
 
 returns-4 : tie.Need-returns-4
-unfolding forwardOf unless
 returns-4 c =
     let c3 = c .before .before in
     let c2 = c3 .before .before in
-    let h = all-good c2 in
-    rw (kind-good (c2 .before .before), h .first, h .second, h .third, central-good c3, ← limit-180 (start3 c3 .args .at .longitude), ← c .before .outside2 .ensures, c .if4 .taken)
+    let s = start3 c3 .args in
+    forward-4 (s .kind) (s .central) (s .at .longitude) (s .at .latitude) (kind-good (c2 .before .before)) (all-good c2)
+    (central-good c3) (limit-180 (s .at .longitude) (c .before .outside2 .ensures) ∙ c .if4 .taken)
 
 returns-5 : tie.Need-returns-5
-unfolding forwardOf unless
 returns-5 c =
     let c4 = c .before .before in
     let c3 = c4 .before .before in
     let c2 = c3 .before .before in
-    let h = all-good c2 in
-    rw (kind-good (c2 .before .before), h .first, h .second, h .third, central-good c3, longitude-good c4, ← limit-90 (start4 c4 .args .at .latitude), ← c .before .outside3 .ensures, c .if5 .taken)
-
-centiseconds-requires : tie.Need-centiseconds-requires
-centiseconds-requires c κs = (judged c .finite .first, read-within 180 perDegree (start5 c .args .central) (judged c .central))
-
-centiseconds-requires-2 : tie.Need-centiseconds-requires-2
-centiseconds-requires-2 c κs =
-    let c5 = c .before in (judged c5 .finite .second, read-within 180 perDegree (start5 c5 .args .at .longitude) (judged c5 .longitude))
-
-centiseconds-requires-3 : tie.Need-centiseconds-requires-3
-centiseconds-requires-3 c κs =
-    let c5 = c .before .before in
-    let x = start5 c5 .args .at .latitude in
-    (judged c5 .finite .third, omega (arith, read-within 90 perDegree x (judged c5 .latitude)))
+    let s = start4 c4 .args in
+    forward-5 (s .kind) (s .central) (s .at .longitude) (s .at .latitude) (kind-good (c2 .before .before)) (all-good c2)
+    (central-good c3) (longitude-good c4) (limit-90 (s .at .latitude) (c .before .outside3 .ensures) ∙ c .if5 .taken)
 
 returns-6 : tie.Need-returns-6
 returns-6 c =
@@ -160,9 +150,9 @@ forward-degrees-spec =
     returns-4
     (λ c κs. search needs)
     returns-5
-    centiseconds-requires
-    centiseconds-requires-2
-    centiseconds-requires-3
+    (λ c κs. search needs)
+    (λ c κs. search needs)
+    (λ c κs. search needs)
     (λ c κs. search needs)
     (λ c κs. search needs)
     returns-6)

@@ -1,21 +1,23 @@
 -- `degrees::position::inverse_degrees` meets its contract: its tests are the conditions of the refusals, in their order, and
 -- the rest is answered by `inverse` at the numbers read.
+use mathlib.Core.Bool.{not}
 use mathlib.Core.Path.{_≡_, sym, ap, _∙_}
 use borrow.Author.Needs.{needs}
 use borrow.Author.Tests.{not-true, not-false}
-use lib.Ieee.Scale.{finite}
+use lib.Dec.{lit≤}
 use mir.Syntax.{w32}
 use mir.Val.{toZ, ofZ}
-use Rattle.projection.specs.Refusal.{unless, badKind}
+use Rattle.parallel.specs.Refusal.{badKind, onGiven}
+use Rattle.parallel.proofs.Orders.{Passes}
 use Rattle.projection.specs.Answer.{meaning, inverseOf as inverseNumbers}
-use Rattle.projection.proofs.Orders.{Passes}
-use Rattle.degrees.specs.Reading.{perDegree, centiseconds, units}
-use Rattle.degrees.specs.Held.{held}
+use Rattle.reading.specs.Reading.{perDegree, centiseconds, units}
+use Rattle.reading.specs.Held.{held}
+use Rattle.reading.proofs.Floats.{read-within}
+use Rattle.reading.proofs.Held.{held-back}
 use Rattle.degrees.specs.Refusal.{badCentral}
-use Rattle.degrees.specs.Answer.{onGiven, writtenPosition, inverseOf}
-use Rattle.degrees.proofs.Floats.{read-within, limit-180}
-use Rattle.degrees.proofs.Orders.{Finite, all-finite, any-bad}
-use Rattle.degrees.proofs.Numbers.{angle-back, held-back, inverse-numbers, inverse-held}
+use Rattle.degrees.specs.Answer.{writtenPosition, inverseOf}
+use Rattle.degrees.proofs.Orders.{Finite, all-finite, limit-180, refused-1, refused-2, refused-3}
+use Rattle.degrees.proofs.Numbers.{angle-back, inverse-numbers, inverse-held}
 use Rattle.degrees.proofs.position.inverse_degrees.Statement.{statement}
 use Rattle.degrees.proofs.position.inverse_degrees.Tie as tie
 
@@ -31,7 +33,7 @@ start3 c = start2 (c .before .before)
 
 -- a test that is passed is the condition of its refusal, which does not hold
 kind-good : (c : tie.Else1) → Passes (badKind (start1 c .args .kind))
-kind-good c = rw (c .before .is-kind .ensures) at (c .if1 .left)
+kind-good c = sym (ap not (c .before .is-kind .ensures)) ∙ c .if1 .left
 
 all-good : (c : tie.Else2) → let s = start2 c .args in Finite (s .central) (s .x) (s .y)
 all-good c =
@@ -39,13 +41,11 @@ all-good c =
     all-finite (s .central) (s .x) (s .y) (sym (c .before .all-finite .ensures) ∙ not-false (c .before .all-finite .result) (c .if2 .left))
 
 central-good : (c : tie.Else3) → Passes (badCentral (start3 c .args .central))
-central-good c = sym (c .before .outside .ensures ∙ limit-180 (start3 c .args .central)) ∙ c .if3 .left
+central-good c = limit-180 (start3 c .args .central) (c .before .outside .ensures) ∙ c .if3 .left
 
 -- the numbers that are handed on
 central-is : (c : tie.After-centiseconds) → toZ w32 (ofZ w32 (c .centiseconds .result)) ≡ centiseconds (start3 (c .before) .args .central)
-central-is c =
-    let x = start3 (c .before) .args .central in
-    angle-back x (read-within 180 perDegree x (central-good (c .before))) (c .centiseconds .ensures)
+central-is c = angle-back 180 (start3 (c .before) .args .central) (lit≤ tt) (central-good (c .before)) (c .centiseconds .ensures)
 
 x-is : (c : tie.After-units) → toZ w32 (ofZ w32 (c .units .result)) ≡ held (units (start3 (c .before .before) .args .x))
 x-is c = held-back (units (start3 (c .before .before) .args .x)) (c .units .ensures)
@@ -64,32 +64,26 @@ answered c =
     (read-within 180 perDegree (s .central) (central-good c3))
 
 returns : tie.Need-returns
-unfolding inverseOf unless
-returns c = rw (← c .before .is-kind .ensures, c .if1 .taken)
+unfolding inverseOf
+returns c =
+    let s = c .before .before .args in
+    refused-1 (s .kind) (s .central) (s .x) (s .y) _ _ (sym (ap not (c .before .is-kind .ensures)) ∙ c .if1 .taken)
 
 returns-2 : tie.Need-returns-2
-unfolding inverseOf unless
+unfolding inverseOf
 returns-2 c =
-    let s = start1 (c .before .before) .args in
-    rw (kind-good (c .before .before))
-    (any-bad _ (finite (s .central)) (finite (s .x)) (finite (s .y))
-    (sym (c .before .all-finite .ensures) ∙ not-true (c .before .all-finite .result) (c .if2 .taken)))
+    let c1 = c .before .before in
+    let s = start1 c1 .args in
+    refused-2 (s .kind) (s .central) (s .x) (s .y) _ _ (kind-good c1)
+    (sym (c .before .all-finite .ensures) ∙ not-true (c .before .all-finite .result) (c .if2 .taken))
 
 returns-3 : tie.Need-returns-3
-unfolding inverseOf unless
+unfolding inverseOf
 returns-3 c =
     let c2 = c .before .before in
-    let h = all-good c2 in
-    rw (kind-good (c2 .before .before), h .first, h .second, h .third, ← limit-180 (start2 c2 .args .central), ← c .before .outside .ensures, c .if3 .taken)
-
-centiseconds-requires : tie.Need-centiseconds-requires
-centiseconds-requires c κs = (all-good (c .before .before) .first, read-within 180 perDegree (start3 c .args .central) (central-good c))
-
-units-requires : tie.Need-units-requires
-units-requires c κs = all-good (c .before .before .before) .second
-
-units-requires-2 : tie.Need-units-requires-2
-units-requires-2 c κs = all-good (c .before .before .before .before) .third
+    let s = start2 c2 .args in
+    refused-3 (s .kind) (s .central) (s .x) (s .y) _ _ (kind-good (c2 .before .before)) (all-good c2)
+    (limit-180 (s .central) (c .before .outside .ensures) ∙ c .if3 .taken)
 
 returns-4 : tie.Need-returns-4
 returns-4 c =
@@ -110,9 +104,9 @@ inverse-degrees-spec =
     returns-2
     (λ c κs. search needs)
     returns-3
-    centiseconds-requires
-    units-requires
-    units-requires-2
+    (λ c κs. search needs)
+    (λ c κs. search needs)
+    (λ c κs. search needs)
     (λ c κs. search needs)
     (λ c κs. search needs)
     returns-4)

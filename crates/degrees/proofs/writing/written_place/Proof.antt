@@ -6,11 +6,11 @@ use lib.Ieee.{binary64, ofInt}
 use mir.Syntax.{w32}
 use mir.Val.{SFits}
 use mir.Facts.{toZ-ofZ}
+use Rattle.parallel.specs.Refusal.{given, onGiven}
 use Rattle.projection.specs.declared.answer.Answer.{Answer}
-use Rattle.projection.specs.Refusal.{given}
 use Rattle.projection.specs.Answer.{meaning}
 use Rattle.degrees.specs.Writing.{unitsOf}
-use Rattle.degrees.specs.Answer.{onGiven, writtenPlace}
+use Rattle.degrees.specs.Answer.{writtenPlace}
 use Rattle.degrees.proofs.writing.written_place.Statement.{statement}
 use Rattle.degrees.proofs.writing.written_place.Tie as tie
 

@@ -5,11 +5,11 @@ use lib.Ieee.{Float}
 use mir.Syntax.{w32}
 use mir.Val.{SFits}
 use mir.Facts.{toZ-ofZ}
+use Rattle.parallel.specs.Refusal.{given, onGiven}
 use Rattle.projection.specs.declared.answer.Answer.{Answer}
-use Rattle.projection.specs.Refusal.{given}
 use Rattle.projection.specs.Answer.{meaning}
 use Rattle.degrees.specs.Writing.{degreesOf}
-use Rattle.degrees.specs.Answer.{onGiven, writtenPosition}
+use Rattle.degrees.specs.Answer.{writtenPosition}
 use Rattle.degrees.proofs.writing.written_position.Statement.{statement}
 use Rattle.degrees.proofs.writing.written_position.Tie as tie
 

@@ -1,14 +1,21 @@
--- `projection::place::forward` meets its contract: its tests are the conditions of the refusals, in their order.
-use mathlib.Core.Path.{_≡_, _∙_}
+-- `projection::place::forward` meets its contract: its tests are the conditions of 1, 3 and 4, and the parallel answers the rest.
+use mathlib.Core.Path.{_≡_, sym, ap, _∙_}
 use borrow.Author.Needs.{needs}
-use lib.Dec.{T}
+use lib.IntN.{ℤ}
+use mir.Syntax.{w32}
+use mir.Val.{SFits}
+use mir.Facts.{toZ-ofZ}
 use Rattle.whole.specs.Signed.{joinOf}
-use Rattle.projection.specs.Angle.{N, H}
-use Rattle.projection.specs.Refusal.{unless, isKind, badKind, badCentral, badLongitude, badLatitude}
-use Rattle.projection.proofs.Rows.{columns}
-use Rattle.projection.proofs.Judged.{not-false, number-is, within}
+use Rattle.angle.specs.Angle.{N}
+use Rattle.angle.proofs.Judged.{number-is, within}
+use Rattle.parallel.specs.declared.at.Parallel.{Parallel}
+use Rattle.parallel.specs.Refusal.{given, onGiven, unless, badKind}
+use Rattle.parallel.specs.Answer.{parallelMeaning}
+use Rattle.parallel.proofs.Orders.{Passes}
+use Rattle.parallel.proofs.Answers.{Small, at-latitude-small}
+use Rattle.projection.specs.Refusal.{badCentral, badLongitude}
 use Rattle.projection.specs.Answer.{forwardOf}
-use Rattle.projection.proofs.Orders.{Passes, forward-given}
+use Rattle.projection.proofs.Orders.{placeOn, forward-parallel}
 use Rattle.projection.proofs.place.forward.Statement.{statement}
 use Rattle.projection.proofs.place.forward.Tie as tie
 
@@ -22,12 +29,9 @@ start2 c = start1 (c .before .before .before)
 abbrev start3 : tie.Else3 → tie.Start
 start3 c = start2 (c .before .before .before)
 
-abbrev start4 : tie.Else4 → tie.Start
-start4 c = start3 (c .before .before .before)
-
 -- a test that is passed is the refusal's condition, which does not hold
 kind-good : (c : tie.Else1) → Passes (badKind (start1 c .args .kind))
-kind-good c = cc
+kind-good c = rw (← c .before .is-kind .ensures) (c .if1 .left)
 
 -- each angle is the number handed in
 central-is : (c : tie.After-new) → joinOf (c .new .result .count) ≡ start1 (c .before) .args .central
@@ -36,17 +40,11 @@ central-is c = number-is (c .new .result .count) (start1 (c .before) .fits .cent
 longitude-is : (c : tie.After-new2) → joinOf (c .new2 .result .count) ≡ start2 (c .before) .args .longitude
 longitude-is c = number-is (c .new2 .result .count) (start2 (c .before) .fits .longitude) (c .new2 .ensures)
 
-latitude-is : (c : tie.After-new3) → joinOf (c .new3 .result .count) ≡ start3 (c .before) .args .latitude
-latitude-is c = number-is (c .new3 .result .count) (start3 (c .before) .fits .latitude) (c .new3 .ensures)
-
 central-good : (c : tie.Else2) → Passes (badCentral (start2 c .args .central))
 central-good c = rw (c .before .outside .ensures, central-is (c .before .before)) at (c .if2 .left)
 
 longitude-good : (c : tie.Else3) → Passes (badLongitude (start3 c .args .longitude))
 longitude-good c = rw (c .before .outside2 .ensures, longitude-is (c .before .before)) at (c .if3 .left)
-
-latitude-good : (c : tie.Else4) → Passes (badLatitude (start4 c .args .latitude))
-latitude-good c = rw (c .before .outside3 .ensures, latitude-is (c .before .before)) at (c .if4 .left)
 
 returns : tie.Need-returns
 unfolding forwardOf unless
@@ -62,41 +60,47 @@ returns-3 c =
     let c2 = c .before .before .before in
     rw (kind-good (c2 .before .before .before), central-good c2, ← longitude-is (c .before .before), ← c .before .outside2 .ensures, c .if3 .taken)
 
-returns-4 : tie.Need-returns-4
-unfolding forwardOf unless
-returns-4 c =
-    let c3 = c .before .before .before in
+-- the answer by the parallel
+answered : (c : tie.After-at-latitude) → let s = start3 (c .before) .args in
+    onGiven (placeOn (s .central) (s .longitude)) (parallelMeaning (c .at-latitude .result)) ≡ forwardOf (s .kind) (s .central) (s .longitude) (s .latitude)
+answered c =
+    let c3 = c .before in
     let c2 = c3 .before .before .before in
-    rw (kind-good (c2 .before .before .before), central-good c2, longitude-good c3, ← latitude-is (c .before .before), ← c .before .outside3 .ensures, c .if4 .taken)
+    let s = start3 c3 in
+    ap (onGiven (placeOn (s .args .central) (s .args .longitude))) (rw (toZ-ofZ (s .fits .latitude)) at (c .at-latitude .ensures))
+    ∙ forward-parallel (s .args .kind) (s .args .central) (s .args .longitude) (s .args .latitude) (kind-good (c2 .before .before .before))
+    (central-good c2) (longitude-good c3)
 
-kind-true : (c : tie.Else4) → T (isKind (start4 c .args .kind))
-kind-true c = let c2 = c .before .before .before .before .before .before in not-false (isKind (start4 c .args .kind)) (kind-good (c2 .before .before .before))
-
-row-of-requires : tie.Need-row-of-requires
-row-of-requires c κs = kind-true c
-
-place-requires : tie.Need-place-requires
-place-requires c κs =
-    let c4 = c .before in
-    let c3 = c4 .before .before .before in
-    let c2 = c3 .before .before .before in (
-      record {
-        columns = rw (c .row-of .ensures) (columns (start4 c4 .args .kind) (kind-true c4));
-        latitude = within H (c4 .before .before .new3 .result .count) (c4 .before .outside3 .result) (c4 .before .outside3 .ensures) (c4 .if4 .left);
-      },
+x-on-requires : tie.Need-x-on-requires
+x-on-requires c κs =
+    let a = c .before .before .before in
+    let c3 = a .before in
+    let c2 = c3 .before .before .before in
+    let w : Small (parallelMeaning (a .at-latitude .result)) = rw (a .at-latitude .ensures) (at-latitude-small _ _) in (
+      rw (c .before .parallel .given .1) at w,
       within N (c2 .before .before .new .result .count) (c2 .before .outside .result) (c2 .before .outside .ensures) (c2 .if2 .left),
       within N (c3 .before .before .new2 .result .count) (c3 .before .outside2 .result) (c3 .before .outside2 .ensures) (c3 .if3 .left),
     )
 
+returns-4 : tie.Need-returns-4
+returns-4 c =
+    let a = c .before .before .before .before in
+    let c3 = a .before in
+    let c2 = c3 .before .before .before in
+    let s = start3 c3 .args in
+    let p = c .before .before .parallel .given in
+    let f1 : SFits w32 (c .x-on .result) = search needs in
+    let f2 : SFits w32 (p .0 .1 .0) = search needs in
+    rw (toZ-ofZ f1, toZ-ofZ f2)
+    (ap (λ (x : ℤ). given (x, p .0 .1 .0)) (rw (central-is (c2 .before .before), longitude-is (c3 .before .before)) at (c .x-on .ensures))
+    ∙ sym (ap (λ (q : Parallel). onGiven (placeOn (s .central) (s .longitude)) (parallelMeaning q)) (p .1))
+    ∙ answered a)
+
 returns-5 : tie.Need-returns-5
 returns-5 c =
-    let c4 = c .before .before in
-    let c3 = c4 .before .before .before in
-    let c2 = c3 .before .before .before in
-    let s = start4 c4 .args in
-    rw (c .before .row-of .ensures, central-is (c2 .before .before), longitude-is (c3 .before .before), latitude-is (c4 .before .before)) at (c .place .ensures)
-    ∙ forward-given (s .kind) (s .central) (s .longitude) (s .latitude) (kind-good (c2 .before .before .before)) (central-good c2) (longitude-good c3)
-    (latitude-good c4)
+    let s = start3 (c .before .before .before .before) .args in
+    sym (ap (λ (p : Parallel). onGiven (placeOn (s .central) (s .longitude)) (parallelMeaning p)) (c .before .parallel2 .given .1))
+    ∙ answered (c .before .before .before)
 
 pub forward-spec : {M : Type 1} → statement M
 forward-spec =
@@ -111,8 +115,8 @@ forward-spec =
     (λ c κs. search needs)
     returns-3
     (λ c κs. search needs)
-    (λ c κs. search needs)
+    (λ c. search needs)
+    x-on-requires
+    (λ c. search needs)
     returns-4
-    row-of-requires
-    place-requires
     returns-5)

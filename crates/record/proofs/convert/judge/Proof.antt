@@ -1,18 +1,16 @@
 -- `record::convert::judge` meets its contract: its tests are the conditions of the refusals, in their order.
-use mathlib.Core.Path.{_≡_, _∙_}
+use mathlib.Core.Path.{_≡_, refl, _∙_}
 use mathlib.Core.List.{List}
 use Prim.Native.Nat.{ℕ}
 use denote.Ref.{now}
-use lib.IntN.{ℤ}
 use mir.Syntax.{w32}
 use mir.Val.{toZ, ofZ}
 use mir.Facts.{toZ-ofZ}
-use Rattle.projection.specs.Refusal.{Outcome}
+use Rattle.parallel.proofs.Orders.{Passes}
 use Rattle.projection.specs.Answer.{forwardOf, inverseOf}
-use Rattle.projection.proofs.Orders.{Passes}
 use Rattle.record.specs.Record.{kindIn, centralIn, firstIn, secondIn}
 use Rattle.record.specs.Refusal.{badMark}
-use Rattle.record.proofs.Orders.{judged-9, judged-10, judged-position, judged-place}
+use Rattle.record.proofs.Orders.{at-numbers, judged-9, judged-10, judged-position, judged-place}
 use borrow.Author.Needs.{needs}
 use Rattle.record.proofs.convert.judge.Statement.{statement}
 use Rattle.record.proofs.convert.judge.Tie as tie
@@ -22,10 +20,6 @@ input c = now (c .before .before .before .args .input)
 
 mark-good : (c : tie.Else1) → Passes (badMark (input c))
 mark-good c = rw (c .before .has-mark .ensures) at (c .if1 .left)
-
--- an answer at three numbers is that at the numbers they are
-at-numbers : (answer : ℤ → ℤ → ℤ → Outcome (ℤ × ℤ)) {c c' f f' s s' : ℤ} → c ≡ c' → f ≡ f' → s ≡ s' → answer c f s ≡ answer c' f' s'
-at-numbers answer c f s = rw (c, f, s)
 
 -- the three numbers that are handed on
 abbrev passed : tie.After-get3 → tie.Else1
@@ -48,21 +42,21 @@ returns-2 c =
     let b = c .before .before in
     let e = passed b in
     c .forward .ensures
-    ∙ at-numbers (forwardOf (kindIn (input e))) (central-is (b .before .before)) (first-is (b .before)) (second-is b)
-    ∙ judged-position (input e) (mark-good e) (c .before .if2 .taken)
+    ∙ at-numbers forwardOf {n = kindIn (input e)} refl (central-is (b .before .before)) (first-is (b .before)) (second-is b)
+    ∙ judged-position (input e) (mark-good e) (c .before .match .keys1)
 
 returns-3 : tie.Need-returns-3
 returns-3 c =
-    let b = c .before .before .before in
+    let b = c .before .before in
     let e = passed b in
     c .inverse .ensures
-    ∙ at-numbers (inverseOf (kindIn (input e))) (central-is (b .before .before)) (first-is (b .before)) (second-is b)
-    ∙ judged-place (input e) (mark-good e) (c .before .if3 .taken)
+    ∙ at-numbers inverseOf {n = kindIn (input e)} refl (central-is (b .before .before)) (first-is (b .before)) (second-is b)
+    ∙ judged-place (input e) (mark-good e) (c .before .match .keys2)
 
 returns-4 : tie.Need-returns-4
 returns-4 c =
-    let e = passed (c .before .before) in
-    judged-10 (input e) (mark-good e) (c .before .if2 .left) (c .if3 .left)
+    let e = passed (c .before) in
+    judged-10 (input e) (mark-good e) (c .match .rest .0 .1) (c .match .rest .1)
 
 pub judge-spec : {M : Type 1} → statement M
 judge-spec =
@@ -76,7 +70,7 @@ judge-spec =
     (λ c κs. search needs)
     (λ c κs. search needs)
     (λ c κs. search needs)
-    returns-2
     (λ c κs. search needs)
+    returns-2
     returns-3
     returns-4)

@@ -12,11 +12,4 @@ returns-2 c = rw (ne-eqb _ _ (c .if1 .left))
 
 pub has-mark-spec : {M : Type 1} → statement M
 has-mark-spec =
-    tie.close
-    (tie.spec
-    (λ c. search needs)
-    (λ c. search needs)
-    (λ c. search needs)
-    (λ c. search needs)
-    returns
-    returns-2)
+    tie.close (tie.spec (λ c. search needs) (λ c. search needs) returns returns-2)

@@ -1,18 +1,17 @@
 -- `report::block::convert_block` meets its contract: at the loop's head i records are fed, and their lines are put.
-use mathlib.Core.Path.{_≡_, refl, ap, _∙_}
+use mathlib.Core.Path.{_≡_, refl, sym, ap, _∙_}
 use mathlib.Core.Bool.{true, false}
 use mathlib.Core.List.{List}
-use Prim.Native.Nat.{ℕ, _-_, _*_, _≤_, _<_}
+use Prim.Native.Nat.{ℕ, _+_, _-_, _*_, _≤_, _<_}
 use native.Mathlib.Omega.{arith}
-use borrow.Author.Needs.{needs}
 use borrow.Author.Tests.{le-leb, lt-leb}
 use denote.Ref.{now}
 use lib.ListN.{length}
-use Rattle.record.specs.declared.session.Session.{Session}
 use Rattle.record.specs.Record.{size}
-use Rattle.report.specs.Line.{lineRoom}
+use Rattle.session.specs.declared.Session.{Session}
+use Rattle.lines.specs.Line.{lineRoom}
+use Rattle.lines.proofs.Buffers.{placed, too-short}
 use Rattle.report.specs.Block.{sessionAt, recordsIn, blockSession, blockLines, blockFits}
-use Rattle.report.proofs.Buffers.{placed, too-short}
 use Rattle.report.proofs.Blocks.{Progress, no-records, one-more}
 use Rattle.report.proofs.block.convert_block.Statement.{statement}
 use Rattle.report.proofs.block.convert_block.Tie as tie
@@ -31,10 +30,17 @@ Inv-loop input text₀ count output₀ state₀ end₀ i₀ text output state en
 abbrev μ-loop : tie.MeasureT-loop
 μ-loop input text₀ count output₀ state₀ end₀ i₀ text output state end i = count - i
 
+abbrev start : tie.In-loop Inv-loop μ-loop → tie.Start Inv-loop μ-loop
+start c = c .before .before .before .before .before
+
+-- the record that is fed is there
+whole : (c : tie.In-loop Inv-loop μ-loop) → size * c .before .loop .i + size ≤ length (now (start c .args .input))
+whole c = omega (arith, c .before .loop .inv .0, c .loop-test .taken)
+
 returns : tie.Need-returns Inv-loop μ-loop
 returns c =
     let a = c .before .before .before .args in
-    let n : length (now (a .text)) < lineRoom * recordsIn (now (a .input)) = omega arith in
+    let n : length (now (a .text)) < lineRoom * recordsIn (now (a .input)) = omega (arith, c .if1 .taken) in
     let e : blockFits (now (a .input)) (now (a .text)) ≡ false = lt-leb _ _ n in
     record { session = rw e; lines = too-short e }
 
@@ -44,7 +50,7 @@ loop-holds c =
       refl,
       record {
         fed = omega arith;
-        room = omega arith;
+        room = omega (arith, c .if1 .left);
         bound = omega arith;
         piece = refl;
         kept = refl;
@@ -54,7 +60,7 @@ loop-holds c =
 
 loop-again : tie.Need-loop-again Inv-loop μ-loop
 loop-again c =
-    let put = c .before .before .put-line in
+    let put = c .before .before .line-at in
     let after = c .before .before .before .before .before .before in
     let fed = after .feed in
     let turn = after .before .before .before in
@@ -62,9 +68,9 @@ loop-again c =
     let s = l .inv .1 in (
       l .inv .0,
       record {
-        fed = omega (arith, l .inv .0);
+        fed = omega (arith, l .inv .0, turn .loop-test .taken);
         room = s .room;
-        bound = omega (arith, put .ensures .1);
+        bound = omega (arith, put .ensures .1, s .bound);
         piece = fed .kept .1 .1 .0 ∙ s .piece;
         kept = put .kept .0 ∙ s .kept;
         progress = one-more (s .progress) (fed .result) (length (l .output)) (s .piece) (fed .ensures .0) (fed .ensures .1 .0) (put .ensures .0);
@@ -77,12 +83,47 @@ returns-2 c =
     let a = c .before .before .before .before .before .args in
     let l = c .before .loop in
     let s = l .inv .1 in
-    let n : l .i ≡ recordsIn (now (a .input)) = omega arith in
+    let n : l .i ≡ recordsIn (now (a .input)) = omega (arith, l .inv .0, s .fed, c .loop-test .left) in
     let e : blockFits (now (a .input)) (now (a .text)) ≡ true = le-leb _ _ (s .room) in
     record {
       session = rw e (s .progress .session ∙ ap (sessionAt (a .session) (now (a .input)) 0) n);
       lines = placed e (rw n at (s .progress .lines));
     }
+
+mul-from : tie.Need-mul-from Inv-loop μ-loop
+mul-from c = omega (arith, whole c, start c .good .1 .0 .0)
+
+add-feed : tie.Need-add-feed Inv-loop μ-loop
+add-feed c = omega (arith, whole c, start c .good .1 .0 .0)
+
+sub-feed : tie.Need-sub-feed Inv-loop μ-loop
+sub-feed c = omega arith
+
+part-feed-start : tie.Need-part-feed-start Inv-loop μ-loop
+part-feed-start c = omega arith
+
+part-feed-end : tie.Need-part-feed-end Inv-loop μ-loop
+part-feed-end c = omega (arith, whole c)
+
+slice-aggregate-feed : tie.Need-slice-aggregate-feed Inv-loop μ-loop
+slice-aggregate-feed c = sym (c .before .before .before .loop .inv .1 .piece)
+
+line-at-requires : tie.Need-line-at-requires Inv-loop μ-loop
+line-at-requires c κs =
+    let turn = c .before .before .before .before .before .before in
+    let s = turn .before .loop .inv .1 in
+    omega (arith, turn .before .loop .inv .0, turn .loop-test .taken, s .room, s .bound, s .kept)
+
+add-i : tie.Need-add-i Inv-loop μ-loop
+add-i c =
+    let turn = c .before .before .before .before .before .before .before .before .before in
+    omega (arith, whole turn, start turn .good .1 .0 .0)
+
+loop-less : tie.Need-loop-less Inv-loop μ-loop
+loop-less c = omega (arith, c .before .before .before .before .before .before .before .before .before .loop-test .taken)
+
+same-length : tie.Need-same-length Inv-loop μ-loop
+same-length c = c .before .loop .inv .1 .kept
 
 pub convert-block-spec : {M : Type 1} → statement M
 convert-block-spec =
@@ -92,16 +133,16 @@ convert-block-spec =
     μ-loop
     returns
     loop-holds
-    (λ c. search needs)
-    (λ c. search needs)
-    (λ c. search needs)
-    (λ c. search needs)
-    (λ c. search needs)
-    (λ c. search needs)
-    (λ c κs. search needs)
-    (λ c κs. search needs)
-    (λ c. search needs)
-    (λ c. search needs)
+    mul-from
+    add-feed
+    sub-feed
+    part-feed-start
+    part-feed-end
+    slice-aggregate-feed
+    (λ c κs. tt)
+    line-at-requires
+    add-i
+    loop-less
     loop-again
-    (λ c. search needs)
+    same-length
     returns-2)

@@ -1,0 +1,35 @@
+// An angle, and the numbers of its unit.
+ghost use mathlib.Core.Path.{_≡_};
+ghost use Rattle.whole.specs.Signed.{splitOf, joinOf};
+ghost use Rattle.angle.specs.Angle.{outside as outsideOf};
+use whole::Signed;
+
+// A longitude or a latitude in whole hundredths of an arcsecond, 360,000 to the degree ("centiseconds" of document 01).
+pub struct Angle {
+    pub count: Signed,
+}
+
+impl Angle {
+    // 180 degrees, 90 degrees, and 32 times 180 degrees.
+    pub const N: u32 = 64_800_000;
+
+    pub const H: u32 = Self::N / 2;
+
+    pub const M: u32 = 32 * Self::N;
+
+    pub fn new(centiseconds: i32) -> Angle
+        ensures { λ r. ⌜ r .count ≡ splitOf centiseconds ⌝ }
+    {
+        Angle {
+            count: Signed::split(centiseconds),
+        }
+    }
+
+    // Whether the angle lies farther from 0 than a limit, either way.
+    pub fn outside(self, limit: u32) -> bool
+        ensures { λ r. ⌜ r ≡ outsideOf limit (joinOf (self .count)) ⌝ }
+    {
+        let count = self.count;
+        limit < count.size
+    }
+}

@@ -1,0 +1,31 @@
+-- Text put into a buffer.
+use mathlib.Core.Path.{_≡_}
+use mathlib.Core.Bool.{Bool, cond}
+use mathlib.Core.Option.{Option, none, some}
+use mathlib.Core.List.{List, _++_}
+use Prim.Native.Nat.{ℕ, _+_}
+use lib.ListN.{length, take, drop}
+use Rattle.lines.specs.declared.buffer.Text.{Text}
+use Rattle.lines.specs.declared.buffer.Text.the-variants.{Bytes, TooShort}
+
+-- a buffer with text in the place of what stands from a place on, and at its front
+unfoldable pub putAt : List ℕ → ℕ → List ℕ → List ℕ
+putAt l at text = take at l ++ (text ++ drop (at + length text) l)
+
+unfoldable pub putFront : List ℕ → List ℕ → List ℕ
+putFront l text = text ++ drop (length text) l
+
+-- text was put at a place of a buffer l, which became l′, and `next` is the place behind it
+pub record Put (l : List ℕ) (at : ℕ) (text : List ℕ) (next : ℕ) (l′ : List ℕ) : Type 0 where
+  pub behind : next ≡ at + length text
+  pub holds : l′ ≡ putAt l at text
+
+-- how many bytes of text a buffer has at its front: none where it is too short
+abbrev pub bytes : Text → Option ℕ
+bytes (Bytes n) = some n
+bytes TooShort = none
+
+-- what is answered, and what a buffer l becomes, where text is to stand at its front: it stays as it was where it is too short
+pub record Placed (fits : Bool) (text l : List ℕ) (answer : Text) (l′ : List ℕ) : Type 0 where
+  pub counted : bytes answer ≡ cond fits (some (length text)) none
+  pub holds : l′ ≡ cond fits (putFront l text) l

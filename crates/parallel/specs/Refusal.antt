@@ -1,0 +1,51 @@
+-- Refusals: numbers with their conditions, in an order, of which the first that applies is given.
+use mathlib.Core.Bool.{Bool, false, not, cond}
+use mathlib.Core.List.{List, [], _∷_}
+use Prim.Native.Nat.{ℕ}
+use lib.Dec.{leb}
+use lib.IntN.{ℤ}
+use lib.ListN.{length}
+use Rattle.angle.specs.Angle.{H, outside}
+use Rattle.parallel.specs.declared.table.Row.{Row}
+use Rattle.parallel.specs.Table.{rows}
+use Rattle.parallel.specs.Parallel.{height}
+
+pub record Refusal : Type 0 where
+  pub number : ℕ
+  pub applies : Bool
+
+-- an answer as document 01 speaks of it: a refusal by its number, or what was asked for
+pub data Outcome (A : Type 0) : Type 0 where
+  refused : ℕ → Outcome A
+  given : A → Outcome A
+
+-- what holds of the number where an answer is a refusal
+abbrev pub OfNumber : {A : Type 0} → (ℕ → Type 0) → Outcome A → Type 0
+OfNumber P (refused n) = P n
+OfNumber P (given a) = Unit {0}
+
+-- f of what is given; a refusal stays
+abbrev pub onGiven : {A B : Type 0} → (A → B) → Outcome A → Outcome B
+onGiven f (given a) = given (f a)
+onGiven f (refused n) = refused n
+
+-- the first refusal that applies, or else a
+unfoldable pub unless : {A : Type 0} → List Refusal → A → Outcome A
+unless [] a = given a
+unless (r ∷ rs) a = cond (r .applies) (refused (r .number)) (unless rs a)
+
+-- a kind of the table
+unfoldable pub isKind : ℕ → Bool
+isKind kind = cond (leb 1 kind) (leb kind (length rows)) false
+
+-- 1: kind is not 1..10
+abbrev pub badKind : ℕ → Refusal
+badKind kind = record { number = 1; applies = not (isKind kind) }
+
+-- 5: latitude outside 90 degrees either way
+abbrev pub badLatitude : ℤ → Refusal
+badLatitude latitude = record { number = 5; applies = outside H latitude }
+
+-- 6: size of y greater than the pole's y, nearest to KY H / N
+abbrev pub badY : Row → ℤ → Refusal
+badY r y = record { number = 6; applies = outside (height r H) y }

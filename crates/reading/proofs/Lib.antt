@@ -1,0 +1,5 @@
+pub mod Floats
+pub mod Digits
+pub mod Held
+pub mod Rounded
+pub mod Turned
