@@ -1,13 +1,12 @@
--- What the program prints: how reads add up, and what `take_in` and `last_lines` answer.
+-- What the program prints: how reads add up, and what `last_lines` answers.
 use mathlib.Core.Path.{_≡_, refl, sym, ap, _∙_}
-use mathlib.Core.Bool.{true, false}
 use mathlib.Core.List.{List, [], _∷_, _++_, append-assoc, append-nil}
-use Prim.Native.Nat.{ℕ, zero, suc, _+_, _-_, _*_, _/_, _%_, _≤_, _<_}
+use Prim.Native.Nat.{ℕ, zero, suc, _+_, _-_, _*_, _<_}
 use native.Mathlib.Nat.{zero-add}
 use native.Mathlib.Omega.{arith}
-use borrow.Author.Tests.{le-leb, lt-leb, ne-eqb}
+use borrow.Author.Tests.{ne-eqb}
 use lib.ListN.{length, take, drop, length-append, length-drop}
-use lib.Seq.{length-take-le, take-append-le, drop-append-le, drop-drop}
+use lib.Seq.{take-append-le, drop-append-le, drop-drop}
 use Rattle.parallel.specs.Refusal.{unless}
 use Rattle.projection.specs.Answer.{meaning}
 use Rattle.record.specs.Record.{size}
@@ -15,14 +14,9 @@ use Rattle.session.specs.declared.Session.{Session}
 use Rattle.session.specs.declared.Fed.{Fed}
 use Rattle.session.specs.Session.{opened, feedOf, sessionAfter}
 use Rattle.session.specs.History.{sessionOf}
-use Rattle.lines.specs.declared.buffer.Text.the-variants.{Bytes, TooShort}
-use Rattle.lines.specs.Buffer.{putFront}
-use Rattle.lines.specs.Line.{lineOf, closingOf, lineRoom}
-use Rattle.lines.proofs.Buffers.{too-short, was-placed, was-too-short}
-use Rattle.report.specs.declared.block.Block.{Block}
-use Rattle.report.specs.declared.stream.Taken.{Taken}
-use Rattle.report.specs.Block.{recordAt, answerAt, sessionAt, linesOf, recordsIn, tailOf, blockSession, blockLines, blockFits, Converted}
-use Rattle.report.specs.Program.{endOf, printedFrom, printedOf, printedBy, joined, ReadsDoNotMatter, TailRefused, callsOf, SessionOfHistory, takes, Took}
+use Rattle.lines.specs.Line.{lineOf, closingOf}
+use Rattle.report.specs.Block.{recordAt, answerAt, sessionAt, linesOf, recordsIn, tailOf, blockSession, blockLines}
+use Rattle.report.specs.Program.{endOf, printedFrom, printedOf, printedBy, joined, ReadsDoNotMatter, TailRefused, callsOf, SessionOfHistory}
 use Rattle.report.proofs.Blocks.{sessions-compose, lines-compose, same-session, same-lines}
 
 -- ---- bytes that come behind others
@@ -34,7 +28,7 @@ module _ (t : Session) (s more : List ℕ) where
   abbrev n : ℕ
   n = recordsIn (tailOf s ++ more)
 
-  tail-length : length (tailOf s) ≡ length s - size * k
+  pub tail-length : length (tailOf s) ≡ length s - size * k
   unfolding tailOf
   tail-length = length-drop (size * k) s
 
@@ -70,19 +64,19 @@ module _ (t : Session) (s more : List ℕ) where
   unfolding blockSession
   session-first = same-session t (s ++ more) s 0 0 k record-before
 
-  block-session : blockSession t (s ++ more) ≡ blockSession (blockSession t s) (tailOf s ++ more)
+  pub block-session : blockSession t (s ++ more) ≡ blockSession (blockSession t s) (tailOf s ++ more)
   unfolding blockSession
   block-session =
       rw (whole-is, sessions-compose t (s ++ more) 0 k n, session-first)
       (same-session (blockSession t s) (s ++ more) (tailOf s ++ more) (0 + k) 0 n record-after)
 
-  block-lines : blockLines t (s ++ more) ≡ blockLines t s ++ blockLines (blockSession t s) (tailOf s ++ more)
+  pub block-lines : blockLines t (s ++ more) ≡ blockLines t s ++ blockLines (blockSession t s) (tailOf s ++ more)
   unfolding blockLines
   block-lines =
       rw (whole-is, lines-compose t (s ++ more) 0 k n, session-first, same-lines t (s ++ more) s 0 0 k record-before)
       (ap (λ (l : List ℕ). linesOf t s 0 k ++ l) (same-lines (blockSession t s) (s ++ more) (tailOf s ++ more) (0 + k) 0 n record-after))
 
-  block-tail : tailOf (s ++ more) ≡ tailOf (tailOf s ++ more)
+  pub block-tail : tailOf (s ++ more) ≡ tailOf (tailOf s ++ more)
   unfolding tailOf
   block-tail = rw whole-is (later n)
 
@@ -129,59 +123,6 @@ history-from s (suc count) = rw (history-from s count, zero-add count)
 pub session-of-history : SessionOfHistory
 unfolding blockSession
 session-of-history s = history-from s (recordsIn s)
-
--- ---- `take_in`
-
-module _ (t : Session) (total : ℕ) (buffer text : List ℕ) where
-  pub no-bytes : length buffer < total → Took t total buffer text (record { session = t; held = total; text = TooShort }) buffer text
-  no-bytes h =
-      let e : takes total buffer text ≡ false = simp (lt-leb _ _ h) in
-      record { session = rw e; held = rw e; left-over = rw e; lines = too-short e }
-
-  module _ (h : total ≤ length buffer) (r : Block) (text′ : List ℕ) (c : Converted t (take total buffer) text r text′) where
-    abbrev s : List ℕ
-    s = take total buffer
-
-    alike : takes total buffer text ≡ blockFits s text
-    alike = rw (le-leb _ _ h)
-
-    pub no-text : r .text ≡ TooShort → Took t total buffer text (record { session = r .session; held = total; text = r .text }) buffer text′
-    no-text e =
-        let b : blockFits s text ≡ false = was-too-short (blockFits s text) (c .lines) e in
-        let f : takes total buffer text ≡ false = alike ∙ b in
-        record { session = rw f (rw b at (c .session)); held = rw f; left-over = rw f; lines = rw alike (c .lines) }
-
-    held-is : length (tailOf s) ≡ total % size
-    held-is = let l = length-take-le total buffer h in let m = tail-length t s [] in omega arith
-
-    pub all-taken : (end : ℕ) (buffer′ : List ℕ) → r .text ≡ Bytes end →
-        buffer′ ≡ drop (total - total % size) (take total buffer) ++ drop (total - (total - total % size)) buffer →
-        Took t total buffer text (record { session = r .session; held = total % size; text = r .text }) buffer′ text′
-    unfolding tailOf putFront
-    all-taken end buffer′ e p =
-        let b : blockFits s text ≡ true = was-placed (blockFits s text) (c .lines) e in
-        let f : takes total buffer text ≡ true = alike ∙ b in
-        let l = length-take-le total buffer h in
-        let from : total - total % size ≡ size * recordsIn s = omega arith in
-        let n : total - (size * recordsIn s) ≡ length (tailOf s) = let m = held-is in omega arith in
-        record {
-          session = rw f (rw b at (c .session));
-          held = rw f (sym held-is);
-          left-over = rw f (p ∙ rw (from, n));
-          lines = rw alike (c .lines);
-        }
-
--- where the room is there, fewer bytes than a record are held over
-pub few-held : {t : Session} {total : ℕ} {buffer text : List ℕ} {r : Taken} {buffer′ text′ : List ℕ} →
-    Took t total buffer text r buffer′ text′ → total ≤ length buffer → lineRoom * (total / size) ≤ length text → r .held < size
-few-held {t} {total} {buffer} {text} {r} took h k =
-    let s : List ℕ = take total buffer in
-    let l : length s ≡ total = length-take-le total buffer h in
-    let b : lineRoom * recordsIn s ≤ length text = rw l k in
-    let f : takes total buffer text ≡ true = rw (le-leb _ _ h) (le-leb _ _ b) in
-    let e : r .held ≡ length (tailOf s) = rw f at (took .held) in
-    let m = tail-length t s [] in
-    omega arith
 
 -- ---- `last_lines`
 

@@ -1,19 +1,15 @@
 -- What the program prints of its input, and how it comes to it by reads.
 use mathlib.Core.Path.{_≡_}
-use mathlib.Core.Bool.{Bool, false, cond}
 use mathlib.Core.List.{List, [], _∷_, _++_}
 use Prim.Native.Nat.{ℕ, zero, suc, _+_, _<_}
-use lib.Dec.{leb}
-use lib.ListN.{length, take}
+use lib.ListN.{length}
 use Rattle.parallel.specs.Refusal.{refused}
 use Rattle.record.specs.Record.{size}
 use Rattle.session.specs.declared.Session.{Session}
 use Rattle.session.specs.Session.{opened, feedOf, sessionAfter}
 use Rattle.session.specs.History.{Call, sessionOf}
-use Rattle.lines.specs.Buffer.{Placed, putFront}
 use Rattle.lines.specs.Line.{lineOf, closingOf, lineRoom, closingRoom}
-use Rattle.report.specs.declared.stream.Taken.{Taken}
-use Rattle.report.specs.Block.{recordAt, recordsIn, tailOf, blockSession, blockLines, blockFits}
+use Rattle.report.specs.Block.{recordAt, recordsIn, tailOf, blockSession, blockLines}
 
 -- the end: the line of a tail that is not empty, which the session answers, and the closing line
 unfoldable pub endOf : Session → List ℕ → List ℕ
@@ -60,15 +56,3 @@ callsOf s (suc count) = record { input = recordAt s count; output = size } ∷ c
 -- the counts that are printed are those of the history of all whole records
 abbrev pub SessionOfHistory : Type 0
 SessionOfHistory = (s : List ℕ) → blockSession opened s ≡ sessionOf (callsOf s (recordsIn s))
-
--- the bytes are there, and the text has the room of their lines
-abbrev pub takes : ℕ → List ℕ → List ℕ → Bool
-takes total buffer text = cond (leb total (length buffer)) (blockFits (take total buffer) text) false
-
--- what `take_in` answers in a session t, and what the buffer and the text become: the bytes that are left over come to the
--- buffer's front; where one of the two is too short, nothing changes
-pub record Took (t : Session) (total : ℕ) (buffer text : List ℕ) (r : Taken) (buffer′ text′ : List ℕ) : Type 0 where
-  pub session : r .session ≡ cond (takes total buffer text) (blockSession t (take total buffer)) t
-  pub held : r .held ≡ cond (takes total buffer text) (length (tailOf (take total buffer))) total
-  pub left-over : buffer′ ≡ cond (takes total buffer text) (putFront buffer (tailOf (take total buffer))) buffer
-  pub lines : Placed (takes total buffer text) (blockLines t (take total buffer)) text (r .text) text′

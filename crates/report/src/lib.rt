@@ -1,9 +1,7 @@
-// The lines of a run of records, and what is printed of a stream of bytes that comes in pieces.
+// The lines of a run of records, and what is printed at the end of a stream of them.
 mod block;
-mod stream;
+mod ending;
 
 pub use block::Block;
 pub use block::convert_block;
-pub use stream::Taken;
-pub use stream::last_lines;
-pub use stream::take_in;
+pub use ending::last_lines;

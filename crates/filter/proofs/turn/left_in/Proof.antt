@@ -1,0 +1,19 @@
+-- `filter::turn::left_in` meets its contract.
+use borrow.Author.Needs.{needs}
+use Rattle.filter.proofs.turn.left_in.Statement.{statement}
+use Rattle.filter.proofs.turn.left_in.Tie as tie
+
+pub left-in-spec : {M : Type 1} → statement M
+left-in-spec =
+    tie.close
+    (tie.spec
+    (λ c. search needs)
+    (λ c. search needs)
+    (λ c. search needs)
+    (λ c. search needs)
+    (λ c. search needs)
+    (λ c. rw (c .enum-told .given .1))
+    (λ c. search needs)
+    (λ c. search needs)
+    (λ c. search needs)
+    (λ c. search needs))

@@ -1,0 +1,94 @@
+-- `filter::turn::turns` meets its contract: the run came to stand where it stands by the turns that it took.
+use mathlib.Core.Path.{_≡_, refl, sym, ap, _∙_}
+use mathlib.Core.List.{List, [], _∷_}
+use Prim.Native.Nat.{ℕ, _-_, _<_}
+use native.Mathlib.Omega.{arith}
+use borrow.Author.Needs.{needs}
+use lib.ListN.{length}
+use Rattle.record.specs.Record.{size}
+use Rattle.stream.specs.declared.state.Phase.the-variants.{Reading}
+use Rattle.stream.specs.Run.{Turn, standingOf}
+use Rattle.stream.specs.Step.{gotOf, readIn, standing}
+use Rattle.filter.specs.Turns.{Room, Reached, limit}
+use Rattle.filter.proofs.Turns.{falls, still, left-at, goes-on}
+use Rattle.filter.proofs.turn.turns.Statement.{statement}
+use Rattle.filter.proofs.turn.turns.Tie as tie
+
+abbrev Inv-loop : tie.InvT-loop
+Inv-loop job arguments buffer₀ text₀ state₀ left₀ buffer text state left =
+    Room buffer text × (state .held < size) × Reached job arguments (standing state buffer) left × (0 < left → state .phase ≡ Reading)
+
+abbrev μ-loop : tie.MeasureT-loop
+μ-loop job arguments buffer₀ text₀ state₀ left₀ buffer text state left = left
+
+loop-holds : tie.Need-loop-holds Inv-loop μ-loop
+unfolding standingOf
+loop-holds c =
+    let phase = c .before .before .phase-at-start .result in
+    rw (c .left-in .ensures) (
+      c .before .before .before .before .before .pre,
+      omega arith,
+      record {
+        turns = [];
+        stands = rw (c .before .«open» .ensures, c .before .before .phase-at-start .ensures);
+        used = λ e. let v = left-at phase limit e in omega arith;
+      },
+      still phase limit,
+    )
+
+loop-less : tie.Need-loop-less Inv-loop μ-loop
+loop-less c =
+    let turned = c .before .before .before .before .before .before in
+    let l = turned .before .before .before .before .loop in
+    rw (c .left-in2 .ensures) (falls (turned .turn .result .state .phase) (l .left) (omega arith))
+
+loop-again : tie.Need-loop-again Inv-loop μ-loop
+unfolding standingOf
+loop-again c =
+    let turned = c .before .before .before .before .before .before in
+    let l = turned .before .before .before .before .loop in
+    let a = turned .before .before .before .before .before .before .before .before .before .before .args in
+    let r = turned .turn .result in
+    let by = turned .turn .ensures in
+    let before = l .inv .2 in
+    let reading : l .state .phase ≡ Reading = l .inv .3 (omega arith) in
+    let turn : Turn = record { read = readIn (gotOf (r .answer) (r .error)) (by .behind); written = r .written } in
+    rw (c .left-in2 .ensures) (
+      search needs,
+      by .few,
+      record {
+        turns = turn ∷ before .turns;
+        stands = by .stands
+            ∙ goes-on (a .job) (standing (l .state) (l .buffer)) (standingOf (a .job) (a .arguments) (before .turns)) turn (before .stands) reading;
+        used = λ e. let u = before .used reading in let v = left-at (r .state .phase) (l .left - 1) e in omega arith;
+      },
+      still (r .state .phase) (l .left - 1),
+    )
+
+same-length : tie.Need-same-length Inv-loop μ-loop
+same-length c = c .before .loop .inv .0 .bytes ∙ sym (c .before .before .before .before .before .before .before .pre .bytes)
+
+same-length-2 : tie.Need-same-length-2 Inv-loop μ-loop
+same-length-2 c = c .before .loop .inv .0 .lines ∙ sym (c .before .before .before .before .before .before .before .pre .lines)
+
+returns : tie.Need-returns Inv-loop μ-loop
+returns c = let z : c .before .loop .left ≡ 0 = omega arith in rw z at (c .before .loop .inv .2)
+
+pub turns-spec : {M : Type 1} → statement M
+turns-spec =
+    tie.close
+    (tie.spec
+    Inv-loop
+    μ-loop
+    (λ c κs. search needs)
+    (λ c κs. search needs)
+    (λ c κs. search needs)
+    loop-holds
+    (λ c κs. let l = c .before .before .before .loop in (l .inv .0, l .inv .1))
+    (λ c. search needs)
+    (λ c κs. search needs)
+    loop-less
+    loop-again
+    same-length
+    same-length-2
+    returns)

@@ -1,0 +1,107 @@
+-- What a run has written, by its phase.
+use mathlib.Core.Path.{_≡_, refl, sym, _∙_}
+use mathlib.Core.Bool.{Bool, true, false, cond}
+use mathlib.Core.List.{List, [], _∷_, _++_, append-nil}
+use Prim.Native.Nat.{ℕ}
+use lib.Dec.{leb}
+use Rattle.session.specs.declared.Session.{Session}
+use Rattle.session.specs.Session.{opened}
+use Rattle.report.specs.Block.{tailOf, blockSession, blockLines, linesOf, sessionAt}
+use Rattle.report.specs.Program.{printedOf, printedFrom}
+use Rattle.report.proofs.Streams.{block-session, block-lines, block-tail}
+use Rattle.stream.specs.declared.job.Job.{Job}
+use Rattle.stream.specs.declared.job.Job.the-variants.{Convert}
+use Rattle.stream.specs.declared.state.Phase.{Phase}
+use Rattle.stream.specs.declared.state.Phase.the-variants.{Reading, Ended, NotStarted, NotRead, NotWritten}
+use Rattle.stream.specs.Job.{blockOf, sessionOf, endingOf, resultOf}
+use Rattle.stream.specs.Run.{Standing, start, phaseAtStart, Read, came, ended, interrupted, failed, bytesIn, offered, afterRead, afterWrite, Turn, turned, goOn, standingOf, inputOf, writtenOf, Cut, Wrote, RunsWrite}
+
+-- ---- what the job makes of bytes that come behind others
+
+module _ (t : Session) (s more : List ℕ) where
+  block-more : (job : Job) → blockOf job t (s ++ more) ≡ blockOf job t s ++ blockOf job (sessionOf job t s) (tailOf s ++ more)
+  unfolding blockOf sessionOf
+  block-more Convert = block-lines t s more
+
+  session-more : (job : Job) → sessionOf job t (s ++ more) ≡ sessionOf job (sessionOf job t s) (tailOf s ++ more)
+  unfolding sessionOf
+  session-more Convert = block-session t s more
+
+result-is : (job : Job) (s : List ℕ) → blockOf job opened s ++ endingOf job (sessionOf job opened s) (tailOf s) ≡ resultOf job s
+unfolding blockOf sessionOf endingOf resultOf printedOf printedFrom
+result-is Convert s = refl
+
+-- ---- what a run has written
+
+-- a run that goes on stands as the job leaves it behind what was read; the others have written what they should
+record Stands (job : Job) (s : Standing) (input written : List ℕ) : Type 0 where
+  session : s .session ≡ sessionOf job opened input
+  rest : s .rest ≡ tailOf input
+  wrote : written ≡ blockOf job opened input
+
+abbrev Kept : Job → Phase → Standing → List ℕ → List ℕ → Type 0
+Kept job Reading s input written = Stands job s input written
+Kept job Ended s input written = Wrote job Ended input written
+Kept job NotStarted s input written = Wrote job NotStarted input written
+Kept job NotRead s input written = Wrote job NotRead input written
+Kept job NotWritten s input written = Wrote job NotWritten input written
+
+kept-read : (job : Job) (s : Standing) (input written : List ℕ) (read : Read) → s .phase ≡ Reading → Stands job s input written →
+    Kept job (afterRead job s read .phase) (afterRead job s read) (input ++ bytesIn read) (written ++ offered job s read)
+unfolding afterRead offered
+kept-read job s input written (came b) e k =
+    record {
+      session = rw (k .session, k .rest) (sym (session-more opened input b job));
+      rest = rw (k .rest) (sym (block-tail opened input b));
+      wrote = rw (k .wrote, k .session, k .rest) (sym (block-more opened input b job));
+    }
+kept-read job s input written ended e k = rw (append-nil input, k .wrote, k .session, k .rest) (result-is job input)
+kept-read job s input written interrupted e k =
+    rw (e, append-nil input, append-nil written) (record { session = k .session; rest = k .rest; wrote = k .wrote })
+kept-read job s input written failed e k = rw (append-nil input, append-nil written) (k .wrote)
+
+kept-turn : (job : Job) (s : Standing) (input written : List ℕ) (turn : Turn) (all : Bool) → turn .written ≡ all → s .phase ≡ Reading →
+    Stands job s input written → let s′ = turned job s turn in
+    Kept job (s′ .phase) s′ (input ++ bytesIn (turn .read)) (written ++ cond all (offered job s (turn .read)) [])
+unfolding afterWrite
+kept-turn job s input written turn true a e k = rw a (kept-read job s input written (turn .read) e k)
+kept-turn job s input written turn false a e k =
+    rw a (record { before = input; last = bytesIn (turn .read); input-is = refl; written-is = append-nil written ∙ k .wrote })
+
+kept-on : (job : Job) (s : Standing) (input written : List ℕ) (turn : Turn) (phase : Phase) → s .phase ≡ phase → Kept job phase s input written →
+    let s′ = goOn phase s (turned job s turn) in
+    Kept job (s′ .phase) s′ (goOn phase input (input ++ bytesIn (turn .read)))
+    (goOn phase written (written ++ cond (turn .written) (offered job s (turn .read)) []))
+kept-on job s input written turn Reading e k = kept-turn job s input written turn (turn .written) refl e k
+kept-on job s input written turn Ended e k = rw e k
+kept-on job s input written turn NotStarted e k = rw e k
+kept-on job s input written turn NotRead e k = rw e k
+kept-on job s input written turn NotWritten e k = rw e k
+
+begins : (job : Job) (arguments : ℕ) → Kept job (phaseAtStart arguments) (start arguments) [] []
+unfolding sessionOf blockOf blockSession blockLines linesOf sessionAt tailOf
+begins Convert arguments = go (leb arguments 1)
+  where
+    go : (few : Bool) → Kept Convert (cond few Reading NotStarted) (start arguments) [] []
+    go true = record { session = refl; rest = refl; wrote = refl }
+    go false = (refl, refl)
+
+kept : (job : Job) (arguments : ℕ) (turns : List Turn) → let s = standingOf job arguments turns in
+    Kept job (s .phase) s (inputOf job arguments turns) (writtenOf job arguments turns)
+unfolding standingOf inputOf writtenOf
+kept job arguments [] = begins job arguments
+kept job arguments (turn ∷ earlier) =
+    let s = standingOf job arguments earlier in
+    kept-on job s (inputOf job arguments earlier) (writtenOf job arguments earlier) turn (s .phase) refl (kept job arguments earlier)
+
+wrote-kept : (job : Job) (phase : Phase) (s : Standing) (input written : List ℕ) → Kept job phase s input written → Wrote job phase input written
+wrote-kept job Reading s input written k = k .wrote
+wrote-kept job Ended s input written k = k
+wrote-kept job NotStarted s input written k = k
+wrote-kept job NotRead s input written k = k
+wrote-kept job NotWritten s input written k = k
+
+pub runs-write : RunsWrite
+runs-write job arguments turns =
+    let s = standingOf job arguments turns in
+    wrote-kept job (s .phase) s (inputOf job arguments turns) (writtenOf job arguments turns) (kept job arguments turns)

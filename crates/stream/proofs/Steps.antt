@@ -1,0 +1,109 @@
+-- What follows a read and a write is what the definitions of a run say.
+use mathlib.Core.Path.{_≡_, refl, sym, ap, _∙_}
+use mathlib.Core.Bool.{Bool, true, false, cond, _&&_}
+use mathlib.Core.List.{List, [], _∷_, _++_}
+use Prim.Native.Nat.{ℕ, zero, suc, _+_, _*_, _/_, _≤_, _<_}
+use native.Mathlib.Omega.{arith}
+use borrow.Author.Tests.{leb-true}
+use lib.Dec.{leb}
+use lib.ListN.{length, take, drop, length-drop, take-append-drop}
+use lib.Seq.{take-add, take-at, length-take-le}
+use Rattle.record.specs.Record.{size}
+use Rattle.lines.specs.Buffer.{putFront}
+use Rattle.lines.specs.Line.{lineRoom}
+use Rattle.report.specs.Block.{tailOf}
+use Rattle.report.specs.Program.{endRoom}
+use Rattle.report.proofs.Streams.{tail-length}
+use Rattle.stream.specs.declared.job.Job.{Job}
+use Rattle.stream.specs.declared.state.Phase.the-variants.{Ended, NotRead}
+use Rattle.stream.specs.declared.state.State.{State}
+use Rattle.stream.specs.declared.state.Got.{Got}
+use Rattle.stream.specs.declared.state.Got.the-variants.{Bytes as Some, End, Interrupted, Failed}
+use Rattle.stream.specs.declared.step.Step.{Step}
+use Rattle.stream.specs.Job.{endingOf}
+use Rattle.stream.specs.Run.{Read, came, ended, interrupted, failed, offered, afterRead, afterWrite}
+use Rattle.stream.specs.Step.{bytesOf, fits, withRoom, Ready, Holds, TakesIn, FollowsIn, heldAfter, standing, writeAfter}
+
+-- ---- room
+
+ready-if : (got : Got) (held buffer text : ℕ) → held + bytesOf got ≤ buffer → lineRoom * ((held + bytesOf got) / size) ≤ text →
+    endRoom ≤ text → Ready got held buffer text
+ready-if (Some n) held buffer text a b c = (a, b)
+ready-if End held buffer text a b c = (omega arith, c)
+ready-if Interrupted held buffer text a b c = tt
+ready-if Failed held buffer text a b c = tt
+
+-- there is room, or the read counts as one that failed
+pub ready : (got : Got) (held buffer text : ℕ) → Ready (withRoom got held buffer text) held buffer text
+ready got held buffer text = go (leb (held + bytesOf got) buffer) (leb (lineRoom * ((held + bytesOf got) / size)) text) (leb endRoom text) refl refl refl
+  where
+    go : (a b c : Bool) → leb (held + bytesOf got) buffer ≡ a → leb (lineRoom * ((held + bytesOf got) / size)) text ≡ b → leb endRoom text ≡ c →
+        Ready (cond (a && b && c) got Failed) held buffer text
+    go true true true e f g = ready-if got held buffer text (leb-true _ _ e) (leb-true _ _ f) (leb-true _ _ g)
+    go true true false e f g = tt
+    go true false c e f g = tt
+    go false b c e f g = tt
+
+-- ---- what follows a read
+
+-- bytes that stand at the front already
+put-same : (l : List ℕ) (n : ℕ) → l ≡ putFront l (take n l)
+unfolding putFront
+put-same l zero = refl
+put-same [] (suc n) = refl
+put-same (x ∷ l) (suc n) = ap (λ (r : List ℕ). x ∷ r) (put-same l n)
+
+nothing : (text : List ℕ) → Holds [] text 0 text
+unfolding putFront
+nothing text = record { counted = refl; holds = refl }
+
+module _ (job : Job) (state : State) (buffer text : List ℕ) where
+  pub follows-bytes : (n : ℕ) (r : Step) (buffer′ text′ : List ℕ) → state .held + n ≤ length buffer →
+      TakesIn job (state .session) (state .held + n) buffer text r buffer′ text′ → FollowsIn job state (Some n) buffer text r buffer′ text′
+  unfolding afterRead offered putFront
+  follows-bytes n r buffer′ text′ h d =
+      let s : List ℕ = take (state .held + n) buffer in
+      let e : take (state .held) buffer ++ take n (drop (state .held) buffer) ≡ s = sym (take-add (state .held) n buffer) in
+      let l : length s ≡ state .held + n = length-take-le _ _ h in
+      let m : length (take n (drop (state .held) buffer)) ≡ n = length-take-le _ _ (simp length-drop (omega arith)) in
+      let k = tail-length (state .session) s s in
+      let rest : take (r .state .held) buffer′ ≡ tailOf s = rw (d .left-over) (take-at (tailOf s) _ (r .state .held) (sym (d .held))) in
+      record {
+        stands = rw (e, d .session, rest, d .reading);
+        held = rw m (d .held ∙ omega arith);
+        left-over = rw e (d .left-over);
+        offers = rw e (d .offers);
+      }
+
+  pub follows-end : (n : ℕ) (text′ : List ℕ) → Holds (endingOf job (state .session) (take (state .held) buffer)) text n text′ →
+      FollowsIn job state End buffer text (record { state = record { session = state .session; held = state .held; phase = Ended }; offered = n }) buffer text′
+  unfolding afterRead offered
+  follows-end n text′ o = record { stands = refl; held = refl; left-over = put-same buffer (state .held); offers = o }
+
+  pub follows-interrupted : FollowsIn job state Interrupted buffer text (record { state = state; offered = 0 }) buffer text
+  unfolding afterRead offered
+  follows-interrupted = record { stands = refl; held = refl; left-over = put-same buffer (state .held); offers = nothing text }
+
+  pub follows-failed : FollowsIn job state Failed buffer text
+      (record { state = record { session = state .session; held = state .held; phase = NotRead }; offered = 0 }) buffer text
+  unfolding afterRead offered
+  follows-failed = record { stands = refl; held = refl; left-over = put-same buffer (state .held); offers = nothing text }
+
+-- ---- what follows a write
+
+pub write-stands : (written : Bool) (state : State) (buffer : List ℕ) →
+    standing (writeAfter written state) buffer ≡ afterWrite written (standing state buffer)
+unfolding afterWrite
+write-stands true state buffer = refl
+write-stands false state buffer = refl
+
+pub write-held : (written : Bool) (state : State) → writeAfter written state .held ≡ state .held
+write-held true state = refl
+write-held false state = refl
+
+-- fewer bytes than a record are held over
+pub few-after : (held : ℕ) (read : Read) → held < size → heldAfter held read < size
+few-after held (came b) h = omega arith
+few-after held ended h = h
+few-after held interrupted h = h
+few-after held failed h = h

@@ -1,0 +1,39 @@
+-- `stream::room::has_room` meets its contract.
+use Prim.Native.Nat.{_+_, _*_, _/_, _≤_, _<_}
+use native.Mathlib.Omega.{arith}
+use borrow.Author.Needs.{needs}
+use borrow.Author.Tests.{le-leb, lt-leb}
+use Rattle.record.specs.Record.{size}
+use Rattle.lines.specs.Line.{lineRoom}
+use Rattle.stream.proofs.room.has_room.Statement.{statement}
+use Rattle.stream.proofs.room.has_room.Tie as tie
+
+returns : tie.Need-returns
+returns c =
+    let a = c .before .args in
+    let h : a .buffer < a .held + a .count = omega (arith, c .if1 .taken) in
+    rw (lt-leb _ _ h)
+
+returns-2 : tie.Need-returns-2
+returns-2 c =
+    let a = c .before .before .args in
+    let h : a .buffer < a .held + a .count = omega (arith, c .if2 .taken, c .before .if1 .left) in
+    rw (lt-leb _ _ h)
+
+there : (c : tie.Else2) → c .before .before .args .held + c .before .before .args .count ≤ c .before .before .args .buffer
+there c = omega (arith, c .if2 .left, c .before .if1 .left)
+
+returns-3 : tie.Need-returns-3
+returns-3 c =
+    let a = c .before .before .before .args in
+    let h : a .text < lineRoom * ((a .held + a .count) / size) = omega (arith, c .if3 .taken) in
+    rw (le-leb _ _ (there (c .before)), lt-leb _ _ h)
+
+returns-4 : tie.Need-returns-4
+returns-4 c =
+    let a = c .before .before .before .args in
+    let h : lineRoom * ((a .held + a .count) / size) ≤ a .text = omega (arith, c .if3 .left) in
+    rw (le-leb _ _ (there (c .before)), le-leb _ _ h)
+
+pub has-room-spec : {M : Type 1} → statement M
+has-room-spec = tie.close (tie.spec returns returns-2 (λ c. omega (arith, there c)) returns-3 (λ c. search needs) returns-4)

@@ -1,0 +1,88 @@
+-- `stream::step::follow` meets its contract.
+use mathlib.Core.Path.{_≡_, sym, subst}
+use Prim.Native.Nat.{_+_, _*_, _/_, _≤_}
+use native.Mathlib.Omega.{arith}
+use borrow.Author.Needs.{needs}
+use denote.Ref.{now}
+use lib.ListN.{length, take}
+use lib.Seq.{length-take-le}
+use Rattle.record.specs.Record.{size}
+use Rattle.lines.specs.Line.{lineRoom}
+use Rattle.report.specs.Program.{endRoom}
+use Rattle.stream.specs.declared.state.Got.{Got}
+use Rattle.stream.specs.Step.{Ready}
+use Rattle.stream.proofs.Steps.{follows-bytes, follows-end, follows-interrupted, follows-failed}
+use Rattle.stream.proofs.step.follow.Statement.{statement}
+use Rattle.stream.proofs.step.follow.Tie as tie
+
+-- the room that there is, by what the read came to
+module _ (c : tie.After-got) where
+  abbrev s : tie.Start
+  s = c .before .before .before .before .before
+
+  ready : (s .args .state .held + c .got .given .0 .0 ≤ length (now (s .args .buffer)))
+      × (lineRoom * ((s .args .state .held + c .got .given .0 .0) / size) ≤ length (now (s .args .text)))
+  ready = subst (λ (g : Got). Ready g (s .args .state .held) (length (now (s .args .buffer))) (length (now (s .args .text)))) (c .got .given .1) (s .pre)
+
+end-ready : (c : tie.After-enum-told) → let s = c .before .before .before .before .before in
+    (s .args .state .held ≤ length (now (s .args .buffer))) × (endRoom ≤ length (now (s .args .text)))
+end-ready c =
+    let s = c .before .before .before .before .before in
+    subst (λ (g : Got). Ready g (s .args .state .held) (length (now (s .args .buffer))) (length (now (s .args .text)))) (c .enum-told .given .1) (s .pre)
+
+take-in-requires : tie.Need-take-in-requires
+take-in-requires c κs =
+    let g = c .before .before .before in
+    let r = ready g in
+    let a = s g .args in
+    let l : length (take (a .state .held + g .got .given .0 .0) (now (a .buffer))) ≡ a .state .held + g .got .given .0 .0 = length-take-le _ _ (r .0) in
+    (r .0, rw l (r .1))
+
+returns : tie.Need-returns
+returns c =
+    let taken = c .before .before .before .before .take-in in
+    let g = c .before .before .before .before .before .before .before .before in
+    let a = s g .args in
+    rw (g .got .given .1)
+    (follows-bytes (a .job) (a .state) (now (a .buffer)) (now (a .text)) (g .got .given .0 .0) (taken .result)
+    (taken .last .1 .1 .1 .0) (taken .last .1 .1 .1 .1 .0) (ready g .0) (taken .ensures))
+
+returns-2 : tie.Need-returns-2
+returns-2 c =
+    let ending = c .before .before .finish in
+    let told = c .before .before .before .before .before in
+    let a = told .before .before .before .before .before .args in
+    rw (told .enum-told .given .1)
+    (follows-end (a .job) (a .state) (now (a .buffer)) (now (a .text)) (ending .result) (ending .last .1 .1 .1 .0) (ending .ensures))
+
+returns-3 : tie.Need-returns-3
+returns-3 c =
+    let a = c .before .before .before .before .before .args in
+    rw (c .enum-told2 .given .1) (follows-interrupted (a .job) (a .state) (now (a .buffer)) (now (a .text)))
+
+returns-4 : tie.Need-returns-4
+returns-4 c =
+    let a = c .before .before .before .before .before .args in
+    rw (c .enum-told3 .given .1) (follows-failed (a .job) (a .state) (now (a .buffer)) (now (a .text)))
+
+pub follow-spec : {M : Type 1} → statement M
+follow-spec =
+    tie.close
+    (tie.spec
+    (λ c. search needs)
+    (λ c. omega (arith, ready (c .before) .0))
+    take-in-requires
+    (λ c. search needs)
+    (λ c. omega (arith, end-ready c .0))
+    (λ c. sym (length-take-le _ _ (end-ready (c .before) .0)))
+    (λ c κs. end-ready (c .before .before) .1)
+    (λ c. search needs)
+    (λ c. search needs)
+    (λ c. search needs)
+    (λ c. search needs)
+    returns
+    (λ c. search needs)
+    (λ c. search needs)
+    returns-2
+    returns-3
+    returns-4)

@@ -1,0 +1,32 @@
+-- `stream::step::take_in` meets its contract.
+use mathlib.Core.Path.{sym}
+use borrow.Author.Needs.{needs}
+use denote.Ref.{now}
+use lib.Seq.{length-take-le}
+use Rattle.stream.proofs.Works.{takes-in}
+use Rattle.stream.proofs.step.take_in.Statement.{statement}
+use Rattle.stream.proofs.step.take_in.Tie as tie
+
+slice-aggregate-work : tie.Need-slice-aggregate-work
+slice-aggregate-work c = sym (length-take-le _ _ (c .before .before .before .pre .0))
+
+returns : tie.Need-returns
+returns c =
+    let moved = c .before .before .move-to-front in
+    let work = c .before .before .before .before .before .before .before .work in
+    let s = c .before .before .before .before .before .before .before .before .before .before .before .before in
+    takes-in (s .args .job) (s .args .session) (s .args .total) (now (s .args .buffer)) (now (s .args .text)) (s .pre .0) (work .result)
+    (moved .last .0) (work .last .1 .1 .1 .0) (work .ensures) (moved .ensures)
+
+pub take-in-spec : {M : Type 1} → statement M
+take-in-spec =
+    tie.close
+    (tie.spec
+    (λ c. search needs)
+    slice-aggregate-work
+    (λ c κs. c .before .before .before .before .pre .1)
+    (λ c. search needs)
+    (λ c κs. search needs)
+    (λ c. search needs)
+    (λ c. search needs)
+    returns)

@@ -1,0 +1,118 @@
+-- A run of a program: where it stands after each read and each write, and what it has written.
+use mathlib.Core.Path.{_≡_}
+use mathlib.Core.Bool.{Bool, true, false, cond}
+use mathlib.Core.List.{List, [], _∷_, _++_}
+use Prim.Native.Nat.{ℕ, _+_}
+use lib.Dec.{leb}
+use lib.ListN.{length}
+use Rattle.session.specs.declared.Session.{Session}
+use Rattle.session.specs.Session.{opened}
+use Rattle.report.specs.Block.{tailOf}
+use Rattle.stream.specs.declared.job.Job.{Job}
+use Rattle.stream.specs.declared.state.Phase.{Phase}
+use Rattle.stream.specs.declared.state.Phase.the-variants.{Reading, Ended, NotStarted, NotRead, NotWritten}
+use Rattle.stream.specs.Job.{blockOf, sessionOf, endingOf, resultOf}
+
+-- where a run stands: the session, the bytes held over, and the phase
+pub record Standing : Type 0 where
+  pub session : Session
+  pub rest : List ℕ
+  pub phase : Phase
+
+abbrev pub stopped : Phase → Standing → Standing
+stopped phase s = record { session = s .session; rest = s .rest; phase = phase }
+
+-- a program that has arguments beside its own name reads nothing
+abbrev pub phaseAtStart : ℕ → Phase
+phaseAtStart arguments = cond (leb arguments 1) Reading NotStarted
+
+abbrev pub start : ℕ → Standing
+start arguments = record { session = opened; rest = []; phase = phaseAtStart arguments }
+
+-- what a read comes to
+pub data Read : Type 0 where
+  came : List ℕ → Read
+  ended : Read
+  interrupted : Read
+  failed : Read
+
+abbrev pub bytesIn : Read → List ℕ
+bytesIn (came b) = b
+bytesIn ended = []
+bytesIn interrupted = []
+bytesIn failed = []
+
+-- what is to be written after a read
+unfoldable pub offered : Job → Standing → Read → List ℕ
+offered job s (came b) = blockOf job (s .session) (s .rest ++ b)
+offered job s ended = endingOf job (s .session) (s .rest)
+offered job s interrupted = []
+offered job s failed = []
+
+unfoldable pub afterRead : Job → Standing → Read → Standing
+afterRead job s (came b) =
+    record { session = sessionOf job (s .session) (s .rest ++ b); rest = tailOf (s .rest ++ b); phase = Reading }
+afterRead job s ended = stopped Ended s
+afterRead job s interrupted = s
+afterRead job s failed = stopped NotRead s
+
+unfoldable pub afterWrite : Bool → Standing → Standing
+afterWrite true s = s
+afterWrite false s = stopped NotWritten s
+
+-- a turn: what its read came to, and whether all that was offered was written
+pub record Turn : Type 0 where
+  pub read : Read
+  pub written : Bool
+
+abbrev pub turned : Job → Standing → Turn → Standing
+turned job s turn = afterWrite (turn .written) (afterRead job s (turn .read))
+
+-- a run that has stopped takes no turn
+abbrev pub goOn : {A : Type 0} → Phase → A → A → A
+goOn Reading before after = after
+goOn Ended before after = before
+goOn NotStarted before after = before
+goOn NotRead before after = before
+goOn NotWritten before after = before
+
+module _ (job : Job) (arguments : ℕ) where
+  -- where a run stands after its turns, the latest first
+  unfoldable pub standingOf : List Turn → Standing
+  standingOf [] = start arguments
+  standingOf (turn ∷ earlier) = let s = standingOf earlier in goOn (s .phase) s (turned job s turn)
+
+  -- what it has read
+  unfoldable pub inputOf : List Turn → List ℕ
+  inputOf [] = []
+  inputOf (turn ∷ earlier) = let s = inputOf earlier in goOn (standingOf earlier .phase) s (s ++ bytesIn (turn .read))
+
+  -- what it has written, but for a part that a write that failed may have written before it failed
+  unfoldable pub writtenOf : List Turn → List ℕ
+  writtenOf [] = []
+  writtenOf (turn ∷ earlier) =
+      let s = standingOf earlier in
+      let more = cond (turn .written) (offered job s (turn .read)) [] in
+      goOn (s .phase) (writtenOf earlier) (writtenOf earlier ++ more)
+
+-- a write failed: what was written before it is of the input before the last read, and has no end
+pub record Cut (job : Job) (input written : List ℕ) : Type 0 where
+  pub before : List ℕ
+  pub last : List ℕ
+  pub input-is : input ≡ before ++ last
+  pub written-is : written ≡ blockOf job opened before
+
+-- what a run in a phase has written of what it has read. Only one that ended has written what the job makes of a whole input:
+-- the others have written of whole records alone
+abbrev pub Wrote : Job → Phase → List ℕ → List ℕ → Type 0
+Wrote job Reading input written = written ≡ blockOf job opened input
+Wrote job Ended input written = written ≡ resultOf job input
+Wrote job NotStarted input written = (input ≡ []) × (written ≡ [])
+Wrote job NotRead input written = written ≡ blockOf job opened input
+Wrote job NotWritten input written = Cut job input written
+
+-- whatever its reads and writes come to
+abbrev pub RunsWrite : Type 0
+RunsWrite =
+    (job : Job) (arguments : ℕ) (turns : List Turn) →
+    Wrote job (standingOf job arguments turns .phase) (inputOf job arguments turns) (writtenOf job arguments turns)

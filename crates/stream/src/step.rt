@@ -1,0 +1,98 @@
+// What follows a read and what follows a write: functions of the state and the buffers alone.
+ghost use mathlib.Core.Path.{_≡_};
+ghost use Prim.Native.Nat.{_*_, _≤_};
+ghost use lib.ListN.{length, take};
+ghost use Rattle.lines.specs.Line.{lineRoom};
+ghost use Rattle.report.specs.Block.{recordsIn};
+ghost use Rattle.stream.specs.Step.{Ready, Follows, FollowsIn, TakesIn, writeAfter};
+use super::front::move_to_front;
+use super::job::Job;
+use super::job::finish;
+use super::job::work;
+use super::room::with_room;
+use super::state::Got;
+use super::state::Phase;
+use super::state::State;
+use record::SIZE;
+use session::Session;
+
+// The state after a read, and how many bytes of the text are to be written.
+pub struct Step {
+    pub state: State,
+    pub offered: usize,
+}
+
+// What follows a read whose bytes stand in the buffer behind those held over. Where the buffer or the text is too short for them, it
+// counts as a read that failed.
+pub fn after_read(job: Job, state: State, got: Got, buffer: &mut [u8], text: &mut [u8]) -> Step
+    ensures { λ r. ⌜ Follows job state got (now (buffer .entry)) (now (text .entry)) r (now (buffer .exit)) (now (text .exit)) ⌝ }
+{
+    let read = with_room(got, state.held, buffer.len(), text.len());
+    follow(job, state, read, buffer, text)
+}
+
+// The same, where both have the room.
+fn follow(job: Job, state: State, got: Got, buffer: &mut [u8], text: &mut [u8]) -> Step
+    requires { ⌜ Ready got (state .held) (length (now buffer)) (length (now text)) ⌝ }
+    ensures { λ r. ⌜ FollowsIn job state got (now (buffer .entry)) (now (text .entry)) r (now (buffer .exit)) (now (text .exit)) ⌝ }
+{
+    let session = state.session;
+    let held = state.held;
+    match got {
+        Got::Bytes(n) => take_in(job, session, held + n, buffer, text),
+        Got::End => {
+            let offered = finish(job, session, &buffer[..held], text);
+            Step {
+                state: State {
+                    session,
+                    held,
+                    phase: Phase::Ended,
+                },
+                offered,
+            }
+        }
+        Got::Interrupted => Step { state, offered: 0 },
+        Got::Failed => Step {
+            state: State {
+                session,
+                held,
+                phase: Phase::NotRead,
+            },
+            offered: 0,
+        },
+    }
+}
+
+// Works on the whole records among the first `total` bytes of the buffer, and holds over those behind them.
+fn take_in(job: Job, session: Session, total: usize, buffer: &mut [u8], text: &mut [u8]) -> Step
+    requires { ⌜ (total ≤ length (now buffer)) × (lineRoom * recordsIn (take total (now buffer)) ≤ length (now text)) ⌝ }
+    ensures { λ r. ⌜ TakesIn job session total (now (buffer .entry)) (now (text .entry)) r (now (buffer .exit)) (now (text .exit)) ⌝ }
+{
+    let worked = work(job, session, &buffer[..total], text);
+    let next = worked.session;
+    let held = total % SIZE;
+    move_to_front(buffer, total - held, total);
+    Step {
+        state: State {
+            session: next,
+            held,
+            phase: Phase::Reading,
+        },
+        offered: worked.offered,
+    }
+}
+
+// What follows a write, by whether all was written.
+pub fn after_write(state: State, written: bool) -> State
+    ensures { λ r. ⌜ r ≡ writeAfter written state ⌝ }
+{
+    if written {
+        return state;
+    }
+    let session = state.session;
+    State {
+        session,
+        held: state.held,
+        phase: Phase::NotWritten,
+    }
+}
