@@ -6,7 +6,7 @@ use mathlib.Core.Path.{_≡_, refl, ap}
 use Prim.Native.Nat.{ℕ}
 use native.Mathlib.Omega.{arith}
 use Rattle.parallel.specs.Refusal.{Refusal, refused, given, unless}
-use Rattle.claims.specs.Demand1.{None, First, Ordered}
+use Rattle.claims.specs.Demand1.{None, First, numbersOf, Ordered}
 
 module _ {A : Type 0} where
   pub not-both : (n : ℕ) (b : A) → refused n ≡ given b → ⊥
@@ -57,9 +57,11 @@ module _ {A : Type 0} where
   first-unless order a n f =
       rw (f .stands, ← f .number) (first-given (f .earlier) (f .refusal) (f .later) a (f .none-earlier) (f .holds))
 
-  pub ordered : (order : List Refusal) (a : A) → Ordered (unless order a) order a
-  ordered order a =
+  pub ordered : (order : List Refusal) (numbers : List ℕ) (a : A) → numbersOf order ≡ numbers →
+      Ordered (unless order a) order numbers a
+  ordered order numbers a e =
       record {
+        numbers-are = e;
         refusal = λ n. (unless-first order a n, first-unless order a n);
         answer = λ b. (unless-given order a b, λ h. rw (h .1) (unless-none order a (h .0)));
       }

@@ -32,5 +32,7 @@ interface =
       inverse-degrees = λ kind c x y. ordered _ _ (tt, (tt, (tt, (tt, (tt, (tt, (tt, tt)))))));
       convert-record = λ input output. ordered _ _ (tt, (tt, (tt, pair-numbers Above0 input tt tt tt tt tt tt)));
       feed = λ session input output. ordered _ _ (tt, (tt, (tt, (tt, pair-numbers Above0 input tt tt tt tt tt tt))));
+      counts-are = λ session. refl;
+      session-kept = λ session. refl;
       counts-kept = λ m r. refl;
     }

@@ -14,16 +14,14 @@ use Rattle.projection.specs.Forward.{xOf, placeOf}
 use Rattle.projection.specs.Answer.{forwardOrder, forwardOf}
 use Rattle.projection.proofs.Places.{x-turned}
 use Rattle.claims.specs.Demand3.{numbers, Alike, TurnedX, TurnedY}
-use Rattle.claims.proofs.Refusals.{ordered, same-refusals}
+use Rattle.claims.proofs.Refusals.{unless-given, same-refusals}
 
 -- answers in a relation are alike after one and the same order of refusals
 unless-alike : {A : Type 0} (R : A → A → Type 0) (order : List Refusal) (p q : A) → R p q → Alike R (unless order p) (unless order q)
 unless-alike R order p q h =
-    let o = ordered order p in
-    let i = ordered order q in
     record {
       refusals = same-refusals order p q;
-      answers = λ s t e d. rw (o .answer s .0 e .1, i .answer t .0 d .1) h;
+      answers = λ s t e d. rw (unless-given order p s e .1, unless-given order q t d .1) h;
     }
 
 pub forward-x : (kind : ℕ) (c l f : ℤ) → Alike (TurnedX numbers) (forwardOf kind c l f) (forwardOf kind (negℤ c) (negℤ l) f)

@@ -1,4 +1,5 @@
--- The C interface: what a status says. What each function returns and leaves in lent memory is in its contract.
+-- The C interface: what a status says, and how a session is kept. What each function returns and leaves in lent memory is in
+-- its contract.
 use mathlib.Core.List.{List, [], _∷_}
 use mathlib.Core.Logic.{_↔_}
 use mathlib.Core.Path.{_≡_}
@@ -28,5 +29,7 @@ pub record Interface : Type 0 where
   pub inverse-degrees : (kind : ℕ) (central x y : Float) → Tells (inverseDegrees kind central x y)
   pub convert-record : (input : List ℕ) (output : ℕ) → Tells (convertOf input output)
   pub feed : (session : Session) (input : List ℕ) (output : ℕ) → Tells (feedOf session input output)
-  -- counts that no record was counted to are handed back as they were lent
+  -- a session is kept as its two counts, moved and then refused, and nothing is lost either way
+  pub counts-are : (session : Session) → countsOf session ≡ session .moved ∷ session .refused ∷ []
+  pub session-kept : (session : Session) → sessionIn (countsOf session) ≡ session
   pub counts-kept : (moved refused : ℕ) → countsOf (sessionIn (moved ∷ refused ∷ [])) ≡ moved ∷ refused ∷ []

@@ -1,10 +1,11 @@
 -- `claims::hold` meets its contract: each claim, by its law.
-use mathlib.Core.Bool.{true, false}
+use mathlib.Core.Bool.{Bool, true, false, cond}
+use mathlib.Core.List.{List, [], _∷_}
 use mathlib.Core.Path.{_≡_, refl, sym, _∙_}
 use Prim.Native.Nat.{ℕ, suc, _+_, _*_, _^_, _≤_}
 use native.Mathlib.Omega.{arith}
 use borrow.Author.Tests.{le-leb, leb-true}
-use lib.Dec.{T, le→leb}
+use lib.Dec.{T, eqb, le→leb}
 use lib.Ieee.{binary64, div, ofInt, round}
 use lib.Ieee.Back.{round-whole}
 use lib.Ieee.Exact.{HasValue}
@@ -34,7 +35,7 @@ use Rattle.degrees.specs.Writing.{degreesOf, unitsOf}
 use Rattle.degrees.specs.Answer.{writtenPlace, writtenPosition, forwardOrder as forwardDegreesOrder, inverseOrder as inverseDegreesOrder, forwardOf as forwardDegrees, inverseOf as inverseDegrees}
 use Rattle.degrees.proofs.Written.{degrees-stand, units-stand}
 use Rattle.little_endian.specs.Number.{bytesOf, numberAt}
-use Rattle.record.specs.Record.{recordOf, movedOf}
+use Rattle.record.specs.Record.{recordOf, kindIn, formIn, centralIn, firstIn, secondIn, movedOf}
 use Rattle.record.specs.Answer.{pairOrder, pairOf, convertOrder, convertOf, outputAfter}
 use Rattle.session.specs.Session.{opened, cap, feedOrder, feedOf, sessionAfter}
 use Rattle.session.specs.History.{answersOf, sessionOf}
@@ -48,7 +49,7 @@ use Rattle.report.specs.Program.{endOf, printedFrom, printedOf}
 use Rattle.report.proofs.Blocks.{sessions-compose, lines-compose}
 use Rattle.report.proofs.Streams.{reads-do-not-matter, tail-refused, session-of-history}
 use Rattle.claims.specs.Arithmetic.{Arithmetic}
-use Rattle.claims.specs.Demand1.{Demand1}
+use Rattle.claims.specs.Demand1.{numbersOf, byForm, Demand1}
 use Rattle.claims.specs.Demand2.{Demand2, Parallel}
 use Rattle.claims.specs.Demand3.{Demand3, numbers, floats}
 use Rattle.claims.specs.Demands.{Demands}
@@ -89,20 +90,32 @@ kind-in : (kind : ℕ) → (1 ≤ kind) × (kind ≤ 10) → T (isKind kind)
 unfolding isKind rows
 kind-in kind h = rw (le-leb 1 kind (h .0)) (le→leb kind 10 (h .1))
 
+-- the numbers of a position's or a place's order, as a record's form says
+pair-numbers : (bytes : List ℕ) → numbersOf (pairOrder bytes) ≡ 1 ∷ 3 ∷ byForm (formIn bytes)
+unfolding pairOrder
+pair-numbers bytes = go (eqb (formIn bytes) 0) (kindIn bytes) (centralIn bytes) (firstIn bytes) (secondIn bytes)
+  where
+    go : (b : Bool) (kind : ℕ) (c u v : ℤ) →
+        numbersOf (cond b (forwardOrder kind c u v) (inverseOrder kind c u v)) ≡ 1 ∷ 3 ∷ cond b (4 ∷ 5 ∷ []) (6 ∷ 7 ∷ [])
+    go true kind c u v = refl
+    go false kind c u v = refl
+
 refusals : Demand1
 unfolding widthOf forwardOf inverseOf forwardDegrees inverseDegrees convertOf feedOf outputAfter rows
 refusals =
     record {
       kinds = λ kind. (kind-range kind, kind-in kind);
-      half-width = λ kind f. ordered (widthOrder kind f) (halfWidth (rowOf kind) (natAbs f));
-      forward = λ kind c l f. ordered (forwardOrder kind c l f) (placeOf (rowOf kind) c l f);
-      inverse = λ kind c x y. ordered (inverseOrder kind c x y) (positionOf (rowOf kind) c x y);
+      half-width = λ kind f. ordered (widthOrder kind f) _ (halfWidth (rowOf kind) (natAbs f)) refl;
+      forward = λ kind c l f. ordered (forwardOrder kind c l f) _ (placeOf (rowOf kind) c l f) refl;
+      inverse = λ kind c x y. ordered (inverseOrder kind c x y) _ (positionOf (rowOf kind) c x y) refl;
       forward-degrees = λ kind c l f.
-          ordered (forwardDegreesOrder kind c l f) (writtenPlace (placeOf (rowOf kind) (centiseconds c) (centiseconds l) (centiseconds f)));
+          ordered (forwardDegreesOrder kind c l f) _
+          (writtenPlace (placeOf (rowOf kind) (centiseconds c) (centiseconds l) (centiseconds f))) refl;
       inverse-degrees = λ kind c x y.
-          ordered (inverseDegreesOrder kind c x y) (writtenPosition (positionOf (rowOf kind) (centiseconds c) (units x) (units y)));
-      convert-record = λ input output. ordered (convertOrder input output) (pairOf input);
-      feed = λ session input output. ordered (feedOrder session input output) (pairOf input);
+          ordered (inverseDegreesOrder kind c x y) _
+          (writtenPosition (positionOf (rowOf kind) (centiseconds c) (units x) (units y))) refl;
+      convert-record = λ input output. ordered (convertOrder input output) _ (pairOf input) (rw (pair-numbers input));
+      feed = λ session input output. ordered (feedOrder session input output) _ (pairOf input) (rw (pair-numbers input));
       output-kept = λ input output n. refl;
     }
 
