@@ -6,6 +6,7 @@ pub mod Turning
 pub mod Wraps
 pub mod Returning
 pub mod Resending
+pub mod Sharpness
 pub mod Sharing
 pub mod Ways
 pub mod Small

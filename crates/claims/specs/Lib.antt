@@ -2,6 +2,7 @@ pub mod Demands
 pub mod Demand1
 pub mod Demand2
 pub mod Demand3
+pub mod Sharp
 pub mod RecordLaws
 pub mod Histories
 pub mod Written

@@ -5,9 +5,10 @@ ghost use Rattle.claims.specs.Examples.{Examples};
 ghost use Rattle.claims.specs.Interface.{Interface};
 ghost use Rattle.claims.specs.Printing.{Printing};
 ghost use Rattle.claims.specs.RecordExample.{RecordExample};
+ghost use Rattle.claims.specs.Sharp.{Sharp};
 ghost use Rattle.claims.specs.Written.{Written};
 
 // Does nothing. Its `ensures` is the product of all claims.
 pub fn hold()
-    ensures { λ _. ⌜ Demands × Examples × RecordExample × Arithmetic × Written × Printing × Interface ⌝ }
+    ensures { λ _. ⌜ Demands × Sharp × Examples × RecordExample × Arithmetic × Written × Printing × Interface ⌝ }
 {}

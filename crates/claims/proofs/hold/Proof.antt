@@ -66,6 +66,7 @@ use Rattle.claims.proofs.Turning.{forward-x, forward-y}
 use Rattle.claims.proofs.Returning.{forward-back}
 use Rattle.claims.proofs.Sharing.{sharing}
 use Rattle.claims.proofs.Resending.{back-forward}
+use Rattle.claims.proofs.Sharpness.{sharp}
 use Rattle.claims.proofs.Ways.{by-numbers}
 use Rattle.claims.proofs.Floats.{floats-by-numbers}
 use Rattle.claims.proofs.Pieces.{converting-answers, feeding-answers}
@@ -114,8 +115,8 @@ refusals =
       inverse-degrees = λ kind c x y.
           ordered (inverseDegreesOrder kind c x y) _
           (writtenPosition (positionOf (rowOf kind) (centiseconds c) (units x) (units y))) refl;
-      convert-record = λ input output. ordered (convertOrder input output) _ (pairOf input) (rw (pair-numbers input));
-      feed = λ session input output. ordered (feedOrder session input output) _ (pairOf input) (rw (pair-numbers input));
+      convert-record = λ input output. ordered (convertOrder input output) _ (pairOf input) (rw (pair-numbers input) refl);
+      feed = λ session input output. ordered (feedOrder session input output) _ (pairOf input) (rw (pair-numbers input) refl);
       output-kept = λ input output n. refl;
     }
 
@@ -217,7 +218,7 @@ printing =
     }
 
 returns : tie.Need-returns
-returns c = (demands, worked, record-example, arithmetic, written, printing, interface)
+returns c = (demands, sharp, worked, record-example, arithmetic, written, printing, interface)
 
 pub hold-spec : {M : Type 1} → statement M
 hold-spec = tie.close (tie.spec returns)
