@@ -57,9 +57,9 @@ module _ {A : Type 0} where
   first-unless order a n f =
       rw (f .stands, ← f .number) (first-given (f .earlier) (f .refusal) (f .later) a (f .none-earlier) (f .holds))
 
-  pub ordered : (order : List Refusal) (numbers : List ℕ) (a : A) → numbersOf order ≡ numbers →
+  pub ordered : {numbers : List ℕ} (order : List Refusal) (a : A) → numbersOf order ≡ numbers →
       Ordered (unless order a) order numbers a
-  ordered order numbers a e =
+  ordered order a e =
       record {
         numbers-are = e;
         refusal = λ n. (unless-first order a n, first-unless order a n);

@@ -106,17 +106,17 @@ unfolding widthOf forwardOf inverseOf forwardDegrees inverseDegrees convertOf fe
 refusals =
     record {
       kinds = λ kind. (kind-range kind, kind-in kind);
-      half-width = λ kind f. ordered (widthOrder kind f) _ (halfWidth (rowOf kind) (natAbs f)) refl;
-      forward = λ kind c l f. ordered (forwardOrder kind c l f) _ (placeOf (rowOf kind) c l f) refl;
-      inverse = λ kind c x y. ordered (inverseOrder kind c x y) _ (positionOf (rowOf kind) c x y) refl;
+      half-width = λ kind f. ordered (widthOrder kind f) (halfWidth (rowOf kind) (natAbs f)) refl;
+      forward = λ kind c l f. ordered (forwardOrder kind c l f) (placeOf (rowOf kind) c l f) refl;
+      inverse = λ kind c x y. ordered (inverseOrder kind c x y) (positionOf (rowOf kind) c x y) refl;
       forward-degrees = λ kind c l f.
-          ordered (forwardDegreesOrder kind c l f) _
+          ordered (forwardDegreesOrder kind c l f)
           (writtenPlace (placeOf (rowOf kind) (centiseconds c) (centiseconds l) (centiseconds f))) refl;
       inverse-degrees = λ kind c x y.
-          ordered (inverseDegreesOrder kind c x y) _
+          ordered (inverseDegreesOrder kind c x y)
           (writtenPosition (positionOf (rowOf kind) (centiseconds c) (units x) (units y))) refl;
-      convert-record = λ input output. ordered (convertOrder input output) _ (pairOf input) (rw (pair-numbers input) refl);
-      feed = λ session input output. ordered (feedOrder session input output) _ (pairOf input) (rw (pair-numbers input) refl);
+      convert-record = λ input output. ordered (convertOrder input output) (pairOf input) (rw (pair-numbers input) refl);
+      feed = λ session input output. ordered (feedOrder session input output) (pairOf input) (rw (pair-numbers input) refl);
       output-kept = λ input output n. refl;
     }
 
