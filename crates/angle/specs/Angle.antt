@@ -1,8 +1,12 @@
--- The numbers of the angle's unit, the hundredth of an arcsecond ("centisecond" of document 01): N, H and M.
+-- The numbers of the angle's unit, the hundredth of an arcsecond ("centisecond" of document 01): those in a degree, N, H and M.
 use mathlib.Core.Bool.{Bool}
 use Prim.Native.Nat.{ℕ, _*_, _/_}
 use lib.Dec.{ltb}
 use lib.IntN.{ℤ, natAbs}
+
+-- a degree
+abbrev pub perDegree : ℕ
+perDegree = 360000
 
 -- 180 degrees
 abbrev pub N : ℕ

@@ -4,13 +4,15 @@ ghost use Rattle.whole.specs.Signed.{splitOf, joinOf};
 ghost use Rattle.angle.specs.Angle.{outside as outsideOf};
 use whole::Signed;
 
-// A longitude or a latitude in whole hundredths of an arcsecond, 360,000 to the degree ("centiseconds" of document 01).
+// A longitude or a latitude in whole hundredths of an arcsecond ("centiseconds" of document 01).
 pub struct Angle {
     pub count: Signed,
 }
 
 impl Angle {
-    // 180 degrees, 90 degrees, and 32 times 180 degrees.
+    // A degree, 180 degrees, 90 degrees, and 32 times 180 degrees.
+    pub const PER_DEGREE: u32 = 360_000;
+
     pub const N: u32 = 64_800_000;
 
     pub const H: u32 = Self::N / 2;

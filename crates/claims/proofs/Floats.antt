@@ -8,7 +8,7 @@ use borrow.Author.Tests.{not-false, ltb-false}
 use lib.IntN.{ℤ, negℤ, natAbs}
 use lib.Ieee.{Float}
 use lib.Ieee.Scale.{finite}
-use Rattle.angle.specs.Angle.{H}
+use Rattle.angle.specs.Angle.{perDegree, H}
 use Rattle.angle.proofs.Judged as Judged
 use Rattle.parallel.specs.Table.{rowOf}
 use Rattle.parallel.specs.Parallel.{height}
@@ -17,7 +17,7 @@ use Rattle.parallel.specs.Refusal.{refused, given, isKind, onGiven}
 use Rattle.projection.specs.Forward.{placeOf}
 use Rattle.projection.specs.Inverse.{positionOf}
 use Rattle.projection.specs.Answer.{forwardOf, inverseOf}
-use Rattle.reading.specs.Reading.{readOf, perDegree, centiseconds, units, outside}
+use Rattle.reading.specs.Reading.{readOf, centiseconds, units, outside}
 use Rattle.reading.proofs.Turned.{finite-neg, outside-neg, read-neg, read-zero}
 use Rattle.reading.proofs.Rounded.{Stands}
 use Rattle.reading.proofs.Floats.{read-within}

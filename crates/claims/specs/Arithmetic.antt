@@ -1,4 +1,5 @@
--- That the definitions of rounding, of the root and of the exact root's order are what their names say.
+-- That the definitions of rounding, of the root and of the exact root's order are what their names say, and N and H the degrees
+-- that document 01 says.
 use mathlib.Core.Logic.{_↔_}
 use mathlib.Core.Path.{_≡_}
 use Prim.Native.Nat.{ℕ, suc, _+_, _*_, _<_}
@@ -7,6 +8,7 @@ use lib.Signed.{_<ℤ_}
 use Rattle.whole.specs.Nearest.{nearest, Near}
 use Rattle.whole.specs.Signed.{nearestSigned}
 use Rattle.whole.specs.Root.{root, IsRoot}
+use Rattle.angle.specs.Angle.{perDegree, N, H}
 use Rattle.claims.specs.ExactRoot.{BelowRoot}
 
 pub record Arithmetic : Type 0 where
@@ -20,3 +22,6 @@ pub record Arithmetic : Type 0 where
   pub floor : (n : ℕ) → IsRoot n (root n)
   -- where s is r squared, u < y √s is u < y r
   pub exact : (u y : ℤ) (r : ℕ) → BelowRoot u y (r * r) ↔ (u <ℤ (y *ℤ pos r))
+  -- 180 and 90 degrees
+  pub half-turn : N ≡ 180 * perDegree
+  pub right-angle : H ≡ 90 * perDegree

@@ -10,7 +10,7 @@ use lib.Ieee.{Float}
 use mir.Syntax.{w32}
 use mir.Val.{toZ, ofZ}
 use Rattle.whole.proofs.Signs.{natAbs-on}
-use Rattle.angle.specs.Angle.{N, H, outside}
+use Rattle.angle.specs.Angle.{perDegree, N, H, outside}
 use Rattle.angle.proofs.Judged.{not-false}
 use Rattle.parallel.specs.declared.table.Row.{Row}
 use Rattle.parallel.specs.Table.{rowOf}
@@ -24,7 +24,7 @@ use Rattle.parallel.proofs.Heights.{pole-small, found-small}
 use Rattle.projection.specs.Inverse.{positionOf}
 use Rattle.projection.specs.Answer.{rowOrder, onRow, forwardOf as forwardNumbers, inverseOf as inverseNumbers}
 use Rattle.projection.proofs.Orders.{forward-given as numbers-given, inverse-row as numbers-row, row-6, row-7}
-use Rattle.reading.specs.Reading.{perDegree, centiseconds, units, outside as farther}
+use Rattle.reading.specs.Reading.{centiseconds, units, outside as farther}
 use Rattle.reading.specs.Held.{most, held}
 use Rattle.reading.proofs.Floats.{read-within}
 use Rattle.reading.proofs.Held.{held-back, held-same}

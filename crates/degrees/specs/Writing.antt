@@ -1,9 +1,9 @@
 -- How whole numbers are written as floats.
 use lib.IntN.{ℤ, pos}
 use lib.Ieee.{Float, binary64, ofInt, div}
-use Rattle.reading.specs.Reading.{perDegree}
+use Rattle.angle.specs.Angle.{perDegree}
 
--- hundredths of an arcsecond as degrees: divided by 360000.0, rounded once
+-- hundredths of an arcsecond as degrees: divided by the float of perDegree, rounded once
 unfoldable pub degreesOf : ℤ → Float
 degreesOf z = div binary64 (ofInt binary64 z) (ofInt binary64 (pos perDegree))
 

@@ -5,10 +5,11 @@ ghost use Rattle.projection.specs.Answer.{meaning as wholeMeaning};
 ghost use Rattle.degrees.specs.Writing.{degreesOf};
 ghost use Rattle.degrees.specs.Answer.{meaning, writtenPlace, writtenPosition};
 use super::answer::FloatAnswer;
+use angle::Angle;
 use projection::Answer;
 
-// Hundredths of an arcsecond in a degree.
-const PER_DEGREE: f64 = 360000.0;
+// Hundredths of an arcsecond in a degree, as a float.
+const PER_DEGREE: f64 = Angle::PER_DEGREE as f64;
 
 // A longitude and a latitude in degrees.
 pub struct Degrees {

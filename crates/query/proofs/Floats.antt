@@ -1,4 +1,4 @@
--- No float that a call answers is a NaN: each is a whole number rounded, or such a one divided by 360000.0 and rounded.
+-- No float that a call answers is a NaN: each is a whole number rounded, or such a one divided by 360,000 and rounded.
 use mathlib.Core.Bool.{Bool, true, false, cond}
 use mathlib.Core.List.{List, [], _∷_}
 use Prim.Native.Nat.{ℕ, zero, suc, _*_, _^_}

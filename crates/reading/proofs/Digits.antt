@@ -9,7 +9,7 @@ use lib.Pow.{pow-pos, pow-add, pow-mono}
 use Rattle.whole.specs.Nearest.{nearest}
 use Rattle.whole.proofs.Rounding.{near, nearest-scale}
 use Rattle.whole.proofs.Scales.{nearest-strict, near-ge}
-use Rattle.reading.specs.Reading.{perDegree}
+use Rattle.angle.specs.Angle.{perDegree}
 use Rattle.reading.specs.Held.{most}
 
 module _ (q by : ℕ) where

@@ -7,6 +7,7 @@ use lib.IntN.{ℤ, pos}
 use lib.Ieee.{Float, nan, inf, fin, up, down}
 use Rattle.whole.specs.Nearest.{nearest}
 use Rattle.whole.specs.Signed.{withSign}
+use Rattle.angle.specs.Angle.{perDegree}
 
 -- the whole number nearest to k times a float. A float that is no number counts as 0; forward
 -- and inverse refuse it before they read it
@@ -14,10 +15,6 @@ unfoldable pub readOf : ℕ → Float → ℤ
 readOf k nan = pos 0
 readOf k (inf s) = pos 0
 readOf k (fin s m e) = withSign s (nearest (m * up e * k) (down e))
-
--- hundredths of an arcsecond in a degree
-abbrev pub perDegree : ℕ
-perDegree = 360000
 
 -- degrees as hundredths of an arcsecond, and a coordinate of a place as map units
 abbrev pub centiseconds : Float → ℤ

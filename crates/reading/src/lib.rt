@@ -6,8 +6,10 @@ ghost use lib.IntN.{natAbs};
 ghost use lib.Ieee.{binary64, ofBits, lt, neg};
 ghost use lib.Ieee.Scale.{finite as finiteOf};
 ghost use Rattle.whole.specs.Nearest.{nearest as nearestOf};
-ghost use Rattle.reading.specs.Reading.{readOf, perDegree, centiseconds as centisecondsOf, units as unitsOf};
+ghost use Rattle.angle.specs.Angle.{perDegree};
+ghost use Rattle.reading.specs.Reading.{readOf, centiseconds as centisecondsOf, units as unitsOf};
 ghost use Rattle.reading.specs.Held.{most, held};
+use angle::Angle;
 use whole::Signed;
 use whole::nearest;
 
@@ -22,8 +24,8 @@ const PART: u64 = 1 << 12;
 // The most that is read. Every row ends far below it, so that no answer of forward or inverse shows it.
 const MOST: u32 = 2147483647;
 
-// Hundredths of an arcsecond in a degree.
-const PER_DEGREE: u64 = 360000;
+// Hundredths of an arcsecond in a degree, in 64 bits.
+const PER_DEGREE: u64 = Angle::PER_DEGREE as u64;
 
 // Whether x is neither NaN nor infinite: 0 times these is a NaN, which equals nothing.
 pub fn finite(x: f64) -> bool

@@ -198,6 +198,8 @@ arithmetic =
       sized = λ z d. natAbs-on (λ (n : ℕ). nearest n d) z;
       floor = root-is;
       exact = exact;
+      half-turn = refl;
+      right-angle = refl;
     }
 
 fed-answer : feedOf opened input 16 ≡ given (pos 157079633, pos 78539816)

@@ -7,10 +7,11 @@ use borrow.Author.Tests.{not-true, not-false}
 use lib.Dec.{lit≤}
 use mir.Syntax.{w32}
 use mir.Val.{toZ, ofZ}
+use Rattle.angle.specs.Angle.{perDegree}
 use Rattle.parallel.specs.Refusal.{badKind, onGiven}
 use Rattle.parallel.proofs.Orders.{Passes}
 use Rattle.projection.specs.Answer.{meaning, inverseOf as inverseNumbers}
-use Rattle.reading.specs.Reading.{perDegree, centiseconds, units}
+use Rattle.reading.specs.Reading.{centiseconds, units}
 use Rattle.reading.specs.Held.{held}
 use Rattle.reading.proofs.Floats.{read-within}
 use Rattle.reading.proofs.Held.{held-back}

@@ -6,12 +6,13 @@ use lib.Ieee.{binary64, ofInt, ofBits, round, div}
 use mir.Syntax.{w32}
 use mir.Val.{SFits, toZ, ofZ}
 use mir.Facts.{toZ-ofZ}
+use Rattle.angle.specs.Angle.{perDegree}
 use Rattle.degrees.specs.Writing.{degreesOf}
 use Rattle.degrees.proofs.writing.Degrees.from_centiseconds.Statement.{statement}
 use Rattle.degrees.proofs.writing.Degrees.from_centiseconds.Tie as tie
 
--- the code's 360000.0
-literal-is : ofBits binary64 4689928365371555840 ≡ ofInt binary64 (pos 360000)
+-- the bits of the code's PER_DEGREE
+literal-is : ofBits binary64 4689928365371555840 ≡ ofInt binary64 (pos perDegree)
 unfolding ofBits ofInt round
 literal-is = refl
 
