@@ -12,13 +12,19 @@ use Rattle.projection.specs.Answer.{rowOrder}
 use Rattle.reading.specs.Reading.{centiseconds, units}
 use Rattle.degrees.specs.declared.answer.FloatAnswer.{FloatAnswer}
 use Rattle.degrees.specs.declared.answer.FloatAnswer.the-variants.{Pair, Refused}
+use Rattle.degrees.specs.declared.answer.DegreesAnswer.{DegreesAnswer}
+use Rattle.degrees.specs.declared.answer.DegreesAnswer.the-variants.{Position, Refused as DegreesRefused}
 use Rattle.degrees.specs.Writing.{degreesOf, unitsOf}
 use Rattle.degrees.specs.Refusal.{badFloat, badCentral, badLongitude, badLatitude}
 
--- document 01's number or values for each case of the code's answer
+-- document 01's number or values for each case of the code's answers
 abbrev pub meaning : FloatAnswer → Outcome (Float × Float)
-meaning (Pair first second) = given (first, second)
+meaning (Pair x y) = given (x, y)
 meaning (Refused n) = refused n
+
+abbrev pub degreesMeaning : DegreesAnswer → Outcome (Float × Float)
+degreesMeaning (Position at) = given (at .longitude, at .latitude)
+degreesMeaning (DegreesRefused n) = refused n
 
 -- the order of the refusals, call by call: 2 for any of the three floats
 abbrev pub forwardOrder : ℕ → Float → Float → Float → List Refusal

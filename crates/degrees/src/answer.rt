@@ -1,7 +1,14 @@
 // What forward and inverse answer on floats.
+use super::writing::Degrees;
 
-// Two floats, x and y of a place or longitude and latitude in degrees; or the number of the refusal.
+// x and y of a place; or the number of the refusal.
 pub enum FloatAnswer {
     Pair(f64, f64),
+    Refused(u8),
+}
+
+// A position in degrees; or the number of the refusal.
+pub enum DegreesAnswer {
+    Position(Degrees),
     Refused(u8),
 }

@@ -6,6 +6,7 @@ mod place;
 mod position;
 mod writing;
 
+pub use answer::DegreesAnswer;
 pub use answer::FloatAnswer;
 pub use place::forward_degrees;
 pub use position::inverse_degrees;

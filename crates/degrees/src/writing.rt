@@ -3,7 +3,8 @@ ghost use mathlib.Core.Path.{_≡_};
 ghost use Rattle.parallel.specs.Refusal.{onGiven};
 ghost use Rattle.projection.specs.Answer.{meaning as wholeMeaning};
 ghost use Rattle.degrees.specs.Writing.{degreesOf};
-ghost use Rattle.degrees.specs.Answer.{meaning, writtenPlace, writtenPosition};
+ghost use Rattle.degrees.specs.Answer.{meaning, degreesMeaning, writtenPlace, writtenPosition};
+use super::answer::DegreesAnswer;
 use super::answer::FloatAnswer;
 use angle::Angle;
 use projection::Answer;
@@ -46,14 +47,13 @@ pub(crate) fn written_place(answer: Answer) -> FloatAnswer
 }
 
 // A position in hundredths of an arcsecond, in degrees.
-pub(crate) fn written_position(answer: Answer) -> FloatAnswer
-    ensures { λ r. ⌜ meaning r ≡ onGiven writtenPosition (wholeMeaning answer) ⌝ }
+pub(crate) fn written_position(answer: Answer) -> DegreesAnswer
+    ensures { λ r. ⌜ degreesMeaning r ≡ onGiven writtenPosition (wholeMeaning answer) ⌝ }
 {
     match answer {
         Answer::Pair(longitude, latitude) => {
-            let at = Degrees::from_centiseconds(longitude, latitude);
-            FloatAnswer::Pair(at.longitude, at.latitude)
+            DegreesAnswer::Position(Degrees::from_centiseconds(longitude, latitude))
         }
-        Answer::Refused(n) => FloatAnswer::Refused(n),
+        Answer::Refused(n) => DegreesAnswer::Refused(n),
     }
 }

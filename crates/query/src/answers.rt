@@ -5,7 +5,8 @@ use super::values::float;
 use super::values::narrow;
 use super::values::narrow_kind;
 use super::writing::write_answer;
-use super::writing::write_floats;
+use super::writing::write_place;
+use super::writing::write_position;
 use super::writing::write_width;
 use degrees::Degrees;
 use degrees::forward_degrees;
@@ -51,10 +52,10 @@ fn answer_position(kind: u8, central: Number, longitude: Number, latitude: Numbe
         longitude: float(longitude),
         latitude: float(latitude),
     };
-    write_floats(forward_degrees(kind, float(central), at));
+    write_place(forward_degrees(kind, float(central), at));
 }
 
 // Answers a place in floats.
 fn answer_place(kind: u8, central: Number, x: Number, y: Number) {
-    write_floats(inverse_degrees(kind, float(central), float(x), float(y)));
+    write_position(inverse_degrees(kind, float(central), float(x), float(y)));
 }

@@ -1,6 +1,7 @@
 // How answers are written.
-ghost use Rattle.degrees.specs.Answer.{meaning};
+ghost use Rattle.degrees.specs.Answer.{meaning, degreesMeaning};
 ghost use Rattle.query.specs.Floats.{HasBits, HaveBits};
+use degrees::DegreesAnswer;
 use degrees::FloatAnswer;
 use libc::STDOUT_FILENO;
 use parallel::Width;
@@ -31,16 +32,27 @@ pub(crate) fn write_answer(answer: Answer) {
     }
 }
 
-pub(crate) fn write_floats(answer: FloatAnswer)
+pub(crate) fn write_place(answer: FloatAnswer)
     requires { ⌜ HaveBits (meaning answer) ⌝ }
 {
     match answer {
-        FloatAnswer::Pair(first, second) => {
-            write_float(first);
-            io::write_all(STDOUT_FILENO, b" ");
-            write_float(second);
+        FloatAnswer::Pair(x, y) => {
+            write_floats(x, y);
         }
         FloatAnswer::Refused(n) => {
+            write_refusal(n);
+        }
+    }
+}
+
+pub(crate) fn write_position(answer: DegreesAnswer)
+    requires { ⌜ HaveBits (degreesMeaning answer) ⌝ }
+{
+    match answer {
+        DegreesAnswer::Position(at) => {
+            write_floats(at.longitude, at.latitude);
+        }
+        DegreesAnswer::Refused(n) => {
             write_refusal(n);
         }
     }
@@ -57,6 +69,14 @@ fn write_number(z: i32) {
         io::write_all(STDOUT_FILENO, b"-");
     }
     io::print_decimal(STDOUT_FILENO, number.size as u64);
+}
+
+fn write_floats(first: f64, second: f64)
+    requires { ⌜ HasBits first ⌝ ∗ ⌜ HasBits second ⌝ }
+{
+    write_float(first);
+    io::write_all(STDOUT_FILENO, b" ");
+    write_float(second);
 }
 
 // A float by its bits.

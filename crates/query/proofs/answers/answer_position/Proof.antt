@@ -6,10 +6,10 @@ use Rattle.query.proofs.Floats.{forward-bits}
 use Rattle.query.proofs.answers.answer_position.Statement.{statement}
 use Rattle.query.proofs.answers.answer_position.Tie as tie
 
-write-floats-requires : tie.Need-write-floats-requires
-write-floats-requires c κs = subst HaveBits (sym (c .forward-degrees .ensures)) (forward-bits _ _ _ _)
+write-place-requires : tie.Need-write-place-requires
+write-place-requires c κs = subst HaveBits (sym (c .forward-degrees .ensures)) (forward-bits _ _ _ _)
 
 pub answer-position-spec : {M : Type 1} → statement M
 answer-position-spec =
     tie.close
-    (tie.spec (λ c κs. search needs) (λ c κs. search needs) (λ c κs. search needs) (λ c κs. search needs) write-floats-requires (λ c. search needs))
+    (tie.spec (λ c κs. search needs) (λ c κs. search needs) (λ c κs. search needs) (λ c κs. search needs) write-place-requires (λ c. search needs))

@@ -10,7 +10,7 @@ returns : tie.Need-returns
 returns c =
     let s = c .before .before .before .args in
     let e = c .before .before .forward-degrees .ensures in
-    let h = c .hand-out .ensures in
+    let h = c .hand-out-place .ensures in
     (h .0 ∙ ap statusOf e, h .1 ∙ ap (pairAfter (now (s .place))) e)
 
 pub uldaseong-forward-degrees-spec : {M : Type 1} → statement M

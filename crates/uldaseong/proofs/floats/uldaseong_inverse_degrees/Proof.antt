@@ -10,7 +10,7 @@ returns : tie.Need-returns
 returns c =
     let s = c .before .before .before .args in
     let e = c .before .before .inverse-degrees .ensures in
-    let h = c .hand-out .ensures in
+    let h = c .hand-out-position .ensures in
     (h .0 ∙ ap statusOf e, h .1 ∙ ap (pairAfter (now (s .position))) e)
 
 pub uldaseong-inverse-degrees-spec : {M : Type 1} → statement M
