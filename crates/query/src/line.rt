@@ -1,4 +1,4 @@
-// A line of the input, read a byte at a time: a letter, then whole numbers with spaces between them.
+// A line of the input, read a byte at a time: a letter, then numbers with spaces between them.
 use super::number::Number;
 
 // The letter of a line that has no byte yet: no line holds it.
@@ -50,7 +50,7 @@ impl Line {
             return self;
         }
         let at = self.count;
-        if at >= MOST || !number.is_whole() {
+        if at >= MOST || !self.takes(number) {
             self.good = false;
             return self;
         }
@@ -59,6 +59,15 @@ impl Line {
         let next = Number::new();
         self.number = next;
         self
+    }
+
+    // Whether a number is what comes next: after the kind, 'F' and 'I' ask for floats, and the others for whole numbers.
+    fn takes(self, number: Number) -> bool {
+        if 0 < self.count && (self.letter == b'F' || self.letter == b'I') {
+            number.is_float()
+        } else {
+            number.is_whole()
+        }
     }
 
     // The letter of an ended line that has as many numbers as that letter asks for, or else NONE.

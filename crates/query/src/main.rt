@@ -2,7 +2,7 @@
 // parallel, 'f KIND CENTRAL LONGITUDE LATITUDE' by the place's x and y, 'i KIND CENTRAL X Y' by the position's longitude and
 // latitude, or by 'refused' and the number; any other line by 'unreadable'. Angles are in hundredths of an arcsecond;
 // CENTRAL is the central meridian. 'F' and 'I' ask the same as 'f' and 'i' on floats, in degrees; a float is given and
-// answered by its 64 bits.
+// answered by its 64 bits, an 'x' and hexadecimal digits. All other numbers are decimal.
 mod answers;
 mod line;
 mod number;

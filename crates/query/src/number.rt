@@ -1,13 +1,17 @@
-// A whole number of a line, read a byte at a time: '-' where it is below 0, then decimal digits, or an 'x' and hexadecimal
-// ones.
+// A number of a line, read a byte at a time: a whole number in decimal digits, with '-' where it is below 0, or a float by
+// its 64 bits, an 'x' and hexadecimal digits.
 ghost use Prim.Native.Nat.{_<_};
+
+// The most digits of a float: those of 64 bits.
+const MOST_DIGITS: u8 = 16;
 
 pub struct Number {
     pub negative: bool,
     // Without the sign; past 64 bits the largest that they hold.
     pub size: u64,
     pub hexadecimal: bool,
-    pub digits: bool,
+    // How many digits it has, or one more than MOST_DIGITS where it has more than that.
+    pub digits: u8,
     // Whether it has a byte, and whether its bytes can begin a number.
     pub begun: bool,
     pub good: bool,
@@ -20,7 +24,7 @@ impl Number {
             negative: false,
             size: 0,
             hexadecimal: false,
-            digits: false,
+            digits: 0,
             begun: false,
             good: true,
         }
@@ -28,30 +32,37 @@ impl Number {
 
     // The number with one byte more.
     pub(crate) fn with_byte(mut self, byte: u8) -> Number {
-        if byte == b'-' {
-            self.good = self.good && !self.begun;
-            self.negative = true;
-        } else if byte == b'x' {
-            self.good = self.good && !self.digits && !self.hexadecimal;
-            self.hexadecimal = true;
-        } else {
-            self = self.with_digit(digit_of(byte));
-        }
+        let first = !self.begun;
         self.begun = true;
-        self
+        if first && byte == b'-' {
+            self.negative = true;
+            return self;
+        }
+        if first && byte == b'x' {
+            self.hexadecimal = true;
+            return self;
+        }
+        self.with_digit(digit_of(byte))
     }
 
     fn with_digit(mut self, digit: u64) -> Number {
         let base: u64 = if self.hexadecimal { 16 } else { 10 };
         self.good = self.good && digit < base;
         self.size = grown(self.size, base, digit);
-        self.digits = true;
+        if self.digits <= MOST_DIGITS {
+            self.digits = self.digits + 1;
+        }
         self
     }
 
-    // Whether its bytes are a number.
+    // Whether its bytes are a whole number.
     pub(crate) fn is_whole(self) -> bool {
-        self.good && self.digits
+        self.good && 0 < self.digits && !self.hexadecimal
+    }
+
+    // Whether its bytes are a float's 64 bits.
+    pub(crate) fn is_float(self) -> bool {
+        self.good && 0 < self.digits && self.digits <= MOST_DIGITS && self.hexadecimal
     }
 }
 

@@ -30,14 +30,9 @@ pub(crate) fn narrow(number: Number) -> i32 {
     }
 }
 
-// The float with these bits. A number below 0 counts as all ones, as one past 64 bits does: they are a NaN's bits. Every
-// NaN's bits give one NaN, since no float is made of such bits.
+// The float with these bits. Every NaN's bits give one NaN, since no float is made of such bits.
 pub(crate) fn float(number: Number) -> f64 {
-    let bits = if number.negative && 0 < number.size {
-        u64::MAX
-    } else {
-        number.size
-    };
+    let bits = number.size;
     if bits % SIGN > INFINITE {
         0.0 / 0.0
     } else {

@@ -3,7 +3,7 @@ use crate::float;
 use crate::map::{forward, half_width, inverse, Answer};
 use std::fmt;
 
-/// Past 64 bits: outside every range, and no float's bits.
+/// Past 64 bits: outside every range.
 const FAR: i128 = 1 << 64;
 
 /// A kind, and a latitude, or the central meridian with a position or a place.
@@ -19,17 +19,16 @@ impl Request {
     /// The request that a line is, if it is one.
     pub fn read(line: &str) -> Option<Request> {
         let letter = line.chars().next()?;
-        let numbers = numbers(line)?;
-        let (&kind, rest) = numbers.split_first()?;
-        if let ('w', &[latitude]) = (letter, rest) {
-            return Some(Request::Width(kind, latitude));
-        }
-        let three: [i128; 3] = rest.try_into().ok()?;
+        let words = line.get(1..)?.split(' ').filter(|word| !word.is_empty());
+        let words: Vec<&str> = words.collect();
+        let (kind, rest) = words.split_first()?;
+        let kind = whole(kind)?;
         match letter {
-            'f' => Some(Request::Position(kind, three)),
-            'i' => Some(Request::Place(kind, three)),
-            'F' => Some(Request::FloatPosition(kind, three.map(float))),
-            'I' => Some(Request::FloatPlace(kind, three.map(float))),
+            'w' => all(rest, whole).map(|[latitude]| Request::Width(kind, latitude)),
+            'f' => all(rest, whole).map(|three| Request::Position(kind, three)),
+            'i' => all(rest, whole).map(|three| Request::Place(kind, three)),
+            'F' => all(rest, float).map(|three| Request::FloatPosition(kind, three)),
+            'I' => all(rest, float).map(|three| Request::FloatPlace(kind, three)),
             _ => None,
         }
     }
@@ -83,33 +82,32 @@ impl fmt::Display for Request {
     }
 }
 
-/// The whole numbers that follow a line's letter.
-fn numbers(line: &str) -> Option<Vec<i128>> {
-    let rest = line.get(1..)?;
-    let words = rest.split(' ').filter(|word| !word.is_empty());
-    words.map(number).collect()
+/// What is read of some words, if each can be read and they are as many as are asked for.
+fn all<T, const COUNT: usize>(words: &[&str], read: fn(&str) -> Option<T>) -> Option<[T; COUNT]> {
+    let values: Option<Vec<T>> = words.iter().copied().map(read).collect();
+    values?.try_into().ok()
 }
 
-/// A number, or one far past every range where it has too many digits. Hexadecimal digits stand after an `x`.
-fn number(word: &str) -> Option<i128> {
-    let (sign, word) = match word.strip_prefix('-') {
-        Some(rest) => (-1, rest),
+/// A whole number in decimal, or one far past every range where it has too many digits.
+fn whole(word: &str) -> Option<i128> {
+    let (sign, digits) = match word.strip_prefix('-') {
+        Some(digits) => (-1, digits),
         None => (1, word),
     };
-    let (base, digits) = match word.strip_prefix('x') {
-        Some(digits) => (16, digits),
-        None => (10, word),
-    };
-    if digits.is_empty() || !digits.chars().all(|c| c.is_digit(base)) {
+    if digits.is_empty() || !digits.chars().all(|c| c.is_ascii_digit()) {
         return None;
     }
-    let size = i128::from_str_radix(digits, base).unwrap_or(FAR);
+    let size: i128 = digits.parse().unwrap_or(FAR);
     Some(sign * size.min(FAR))
 }
 
-/// The float with these bits. A number that is no 64 bits counts as a NaN.
-fn float(bits: i128) -> f64 {
-    u64::try_from(bits).map_or(f64::NAN, f64::from_bits)
+/// A float by its 64 bits: an `x` and at most 16 hexadecimal digits.
+fn float(word: &str) -> Option<f64> {
+    let digits = word.strip_prefix('x')?;
+    if !(1..=16).contains(&digits.len()) || !digits.chars().all(|c| c.is_ascii_hexdigit()) {
+        return None;
+    }
+    u64::from_str_radix(digits, 16).ok().map(f64::from_bits)
 }
 
 /// A float by its bits.

@@ -7,7 +7,7 @@ use Rattle.query.proofs.values.float.Statement.{statement}
 use Rattle.query.proofs.values.float.Tie as tie
 
 float-from-bits-result : tie.Need-float-from-bits-result
-float-from-bits-result c = rw (nanBits-above binary64 _, le-ltb _ _ (c .if3 .left)) tt
+float-from-bits-result c = rw (nanBits-above binary64 _, le-ltb _ _ (c .if1 .left)) tt
 
 pub float-spec : {M : Type 1} → statement M
 float-spec = tie.close (tie.spec float-from-bits-result (λ c. search needs) (λ c. search needs))

@@ -9,4 +9,4 @@ grown-requires : tie.Need-grown-requires
 grown-requires c κs = ⊎-elim (λ w. omega arith) (λ w. omega arith) (c .before .if1 .came)
 
 pub with-digit-spec : {M : Type 1} → statement M
-with-digit-spec = tie.close (tie.spec grown-requires (λ c. search needs))
+with-digit-spec = tie.close (tie.spec grown-requires (λ c. search needs) (λ c. search needs) (λ c. search needs))
