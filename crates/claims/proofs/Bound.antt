@@ -13,7 +13,7 @@ use Rattle.parallel.specs.declared.table.Row.{Row}
 use Rattle.parallel.specs.declared.table.Method.{Method}
 use Rattle.parallel.specs.declared.table.Method.the-variants.{Unused, Root, Quotient}
 use Rattle.parallel.specs.Parallel.{radicand, rootBy, rootAt, numerator, halfWidth}
-use Rattle.parallel.specs.Columns.{combined, Usable, idle}
+use Rattle.parallel.specs.Columns.{combined, Usable, unusedSize}
 use Rattle.parallel.proofs.Widths.{combined-is, numerator-whole, width-near}
 use Rattle.claims.specs.ExactRoot.{NearRoot}
 use Rattle.claims.specs.Demand2.{slope, rest, WithinOne}
@@ -67,7 +67,7 @@ slope-none r h =
     let e : natAbs (r .b) ≡ 0 = omega arith in
     rw (natAbs-mul (r .b) (r .kx), e, zero-mul (r .kx)) (omega arith)
 
-within : (method : Method) (r : Row) (p : ℕ) → Usable r p → idle method (r .b) ≤ 0 → rootAt r p ≡ rootBy method (radicand r p) →
+within : (method : Method) (r : Row) (p : ℕ) → Usable r p → unusedSize method (r .b) ≤ 0 → rootAt r p ≡ rootBy method (radicand r p) →
     WithinOne method r p
 unfolding rootBy
 within Unused r p u b e =

@@ -29,7 +29,7 @@ use Rattle.claims.specs.Demand3.{TurnedFloat, floats}
 use Rattle.claims.proofs.Refusals.{unless-given, same-refusals}
 use Rattle.claims.proofs.Accepted.{kind-false, Position, position, accepts, Place, place, admits}
 use Rattle.claims.proofs.Small.{place-small, position-small}
-use Rattle.claims.proofs.Ways.{Given, Accepts, Sent, SentBack, ByNumbers}
+use Rattle.claims.proofs.Calls.{Given, Accepts, Sent, SentBack, ByNumbers}
 
 -- a float turned
 turned-read : (k : ℕ) (x t : Float) → TurnedFloat x t → readOf k t ≡ negℤ (readOf k x)

@@ -8,7 +8,7 @@ pub mod Returning
 pub mod Resending
 pub mod Sharpness
 pub mod Sharing
-pub mod Ways
+pub mod Calls
 pub mod Small
 pub mod Floats
 pub mod Pieces

@@ -11,10 +11,10 @@ use Rattle.record.specs.Answer.{judgedOf}
 use Rattle.record.proofs.Orders.{converted-8, converted}
 use Rattle.session.proofs.Orders.{fed-8, fed-11, fed}
 use Rattle.claims.specs.Demand3.{Alike}
-use Rattle.claims.specs.RecordLaws.{Handing, converting, feeding}
+use Rattle.claims.specs.RecordLaws.{RecordCall, converting, feeding}
 use Rattle.claims.proofs.Refusals.{not-both}
 
-pub record Answers (h : Handing) : Type 0 where
+pub record Answers (h : RecordCall) : Type 0 where
   pub short : (t : h .State) (s : List ℕ) (output : ℕ) → bothOfSize (length s) output ≡ false → h .answer t s output ≡ refused 8
   pub filled : (t : h .State) (s : List ℕ) (output : ℕ) → bothOfSize (length s) output ≡ true → h .isFull t ≡ true →
       h .answer t s output ≡ refused 11
@@ -45,7 +45,7 @@ both-refused R n ea eb =
       answers = λ p q e g. absurd (not-both n p (sym ea ∙ e));
     }
 
-module _ (h : Handing) (a : Answers h) where
+module _ (h : RecordCall) (a : Answers h) where
   -- a call that converts had both pieces and room
   pub record Converted (t : h .State) (s : List ℕ) (output : ℕ) (p : ℤ × ℤ) : Type 0 where
     pub pieces : bothOfSize (length s) output ≡ true

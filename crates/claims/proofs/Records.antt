@@ -23,7 +23,7 @@ use Rattle.record.specs.Answer.{judgedOf, outputAfter}
 use Rattle.record.proofs.Orders.{judged-9, judged-10, judged-position, judged-place, mark-bytes, sizes, written}
 use Rattle.record.proofs.Stored.{central-in, first-in, second-in, position-read, place-read}
 use Rattle.claims.specs.Demand3.{Demand3, numbers, Alike, TurnedX, TurnedY, SamePosition, ClosePlace, Shares}
-use Rattle.claims.specs.RecordLaws.{Handing, SameHead, TurnedEast, TurnedNorth, withLongitude, OtherLongitude, FedOn, SharedRecord, RecordLaws}
+use Rattle.claims.specs.RecordLaws.{RecordCall, SameHead, TurnedEast, TurnedNorth, withLongitude, OtherLongitude, FedAgain, SharedRecord, RecordLaws}
 use Rattle.claims.proofs.Refusals.{not-both}
 use Rattle.claims.proofs.Accepted as Accepted
 use Rattle.claims.proofs.Small.{place-small, position-small}
@@ -94,9 +94,9 @@ in-32 z h = fits w32 z (omega arith)
 
 -- ---- a moved record fed on
 
-module _ (h : Handing) (a : Answers h) where
+module _ (h : RecordCall) (a : Answers h) where
   fed-on : (bytes : List ℕ) (P : ℤ × ℤ → Type 0) (t : h .State) (output : ℕ) → length bytes ≡ size → (q : ℤ × ℤ) →
-      judgedOf bytes ≡ given q → P q → FedOn h bytes P t output
+      judgedOf bytes ≡ given q → P q → FedAgain h bytes P t output
   fed-on bytes P t output l q e k = go (eqb output size) (h .isFull t) refl refl
     where
       both : (b : Bool) → eqb output size ≡ b → bothOfSize (length bytes) output ≡ b
@@ -105,7 +105,7 @@ module _ (h : Handing) (a : Answers h) where
       number : (n m : ℕ) → h .answer t bytes output ≡ refused n → h .answer t bytes output ≡ refused m → n ≡ m
       number n m en em = cc
 
-      go : (b f : Bool) → eqb output size ≡ b → h .isFull t ≡ f → FedOn h bytes P t output
+      go : (b f : Bool) → eqb output size ≡ b → h .isFull t ≡ f → FedAgain h bytes P t output
       go false f eb ef =
           let r = a .short t bytes output (both false eb) in
           let no = eqb-false output size eb in
@@ -188,7 +188,7 @@ module _ (h : Handing) (a : Answers h) where
   module _ (d : Demand3 numbers) where
     forward-back : (t t' : h .State) (s out : List ℕ) (output' : ℕ) (p : ℤ × ℤ) → formIn s ≡ position →
         h .answer t s (length out) ≡ given p →
-        FedOn h (outputAfter s out (h .answer t s (length out)))
+        FedAgain h (outputAfter s out (h .answer t s (length out)))
         (λ (q : ℤ × ℤ). SamePosition numbers (kindIn s) (centralIn s) (firstIn s) (secondIn s) (q .0) (q .1)) t' output'
     unfolding recordOf bytesOf
     forward-back t t' s out output' p f e =
@@ -204,7 +204,7 @@ module _ (h : Handing) (a : Answers h) where
 
     back-forward : (t t' : h .State) (s out : List ℕ) (output' : ℕ) (p : ℤ × ℤ) → formIn s ≡ place →
         h .answer t s (length out) ≡ given p →
-        FedOn h (outputAfter s out (h .answer t s (length out)))
+        FedAgain h (outputAfter s out (h .answer t s (length out)))
         (λ (q : ℤ × ℤ). ClosePlace numbers (kindIn s) (centralIn s) (firstIn s) (secondIn s) (q .0) (q .1)) t' output'
     unfolding recordOf bytesOf
     back-forward t t' s out output' p f e =

@@ -1,6 +1,6 @@
 -- No refusal has the number 0, so that a status of 0 tells.
 use mathlib.Core.List.{List}
-use mathlib.Core.Path.{refl, subst}
+use mathlib.Core.Path.{refl, ap, subst}
 use Prim.Native.Nat.{ℕ}
 use lib.Dec.{T, ltb}
 use Rattle.parallel.specs.Refusal.{Refusal, Outcome, refused, given, OfNumber, unless}
@@ -10,14 +10,15 @@ use Rattle.degrees.specs.Answer.{forwardOf as forwardDegrees, inverseOf as inve
 use Rattle.record.specs.Answer.{convertOf}
 use Rattle.record.proofs.Orders.{pair-numbers}
 use Rattle.session.specs.Session.{feedOf}
+use Rattle.uldaseong.specs.Status.{statusOf}
 use Rattle.claims.specs.Interface.{Tells, Interface}
 
 abbrev Above0 : ℕ → Type 0
 Above0 n = T (ltb 0 n)
 
 tells : {A : Type 0} (outcome : Outcome A) → OfNumber Above0 outcome → Tells outcome
-tells (given a) h = (λ e. tt, λ c. refl)
-tells (refused n) h = (λ e. subst Above0 e h, λ c. absurd c)
+tells (given a) h = record { converted = (λ e. tt, λ c. refl); number = λ n e. ap statusOf e }
+tells (refused m) h = record { converted = (λ e. subst Above0 e h, λ c. absurd c); number = λ n e. ap statusOf e }
 
 ordered : {A : Type 0} (order : List Refusal) (a : A) → OfNumbers Above0 order → Tells (unless order a)
 ordered order a h = tells (unless order a) (unless-number Above0 order a h)

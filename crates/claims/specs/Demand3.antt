@@ -1,4 +1,4 @@
--- Demand 3, said once for every way of handing numbers in: whole numbers and floats. For records, whose pieces and session
+-- Demand 3, said once for the calls on whole numbers and those on floats. For records, whose pieces and session
 -- may refuse beyond that, it is said in RecordLaws.
 use mathlib.Core.Logic.{_⊎_, _≢_, _↔_}
 use mathlib.Core.Path.{_≡_}
@@ -18,7 +18,7 @@ use Rattle.degrees.specs.Answer.{forwardOf as forwardDegrees, inverseOf as inve
 
 -- what is handed in and answered, the whole numbers that it stands for, when a second angle is the first with its sign
 -- turned, and the two calls
-pub record Way : Type 1 where
+pub record Calls : Type 1 where
   pub Angle : Type 0
   pub Coordinate : Type 0
   pub centiseconds : Angle → ℤ
@@ -28,7 +28,7 @@ pub record Way : Type 1 where
   pub inverse : ℕ → Angle → Coordinate → Coordinate → Outcome (Angle × Angle)
 
 -- whole numbers
-abbrev pub numbers : Way
+abbrev pub numbers : Calls
 numbers =
     record {
       Angle = ℤ;
@@ -45,7 +45,7 @@ numbers =
 abbrev pub TurnedFloat : Float → Float → Type 0
 TurnedFloat x t = (t ≡ neg x) ⊎ ((t ≡ x) × (eq x (ofInt binary64 (pos 0)) ≡ true))
 
-abbrev pub floats : Way
+abbrev pub floats : Calls
 floats =
     record {
       Angle = Float;
@@ -75,7 +75,7 @@ pub record Alike {A : Type 0} (R : A → A → Type 0) (first second : Outcome A
   pub answers : (p q : A) → first ≡ given p → second ≡ given q → R p q
 
 -- c is the central meridian, l and f the longitude and the latitude of a position, and x and y a place
-module _ (w : Way) where
+module _ (w : Calls) where
   -- x turned and y the same
   abbrev pub TurnedX : w .Coordinate × w .Coordinate → w .Coordinate × w .Coordinate → Type 0
   TurnedX p q = (w .units (q .0) ≡ negℤ (w .units (p .0))) × (w .units (q .1) ≡ w .units (p .1))

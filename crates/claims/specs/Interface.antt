@@ -18,9 +18,10 @@ abbrev pub Converted : {A : Type 0} → Outcome A → Type 0
 Converted (given a) = Unit {0}
 Converted (refused n) = ⊥
 
--- a status of 0 says that the call converted, and any other that it did not
-abbrev pub Tells : {A : Type 0} → Outcome A → Type 0
-Tells outcome = (statusOf outcome ≡ 0) ↔ Converted outcome
+-- a status of 0 says that the call converted, and that of a refusal is its number
+pub record Tells {A : Type 0} (outcome : Outcome A) : Type 0 where
+  pub converted : (statusOf outcome ≡ 0) ↔ Converted outcome
+  pub number : (n : ℕ) → outcome ≡ refused n → statusOf outcome ≡ n
 
 pub record Interface : Type 0 where
   pub forward : (kind : ℕ) (central longitude latitude : ℤ) → Tells (forwardOf kind central longitude latitude)

@@ -1,11 +1,12 @@
--- What is printed of an input by `take_in` and `last_lines`: that of the whole input, whatever pieces it comes in, in text that is
--- what it should be. Reading the pieces and writing the text is the program's.
+-- What the program prints of an input: that of the whole input, whatever pieces it comes in and whatever goes wrong between them,
+-- in text that is what it should be.
 use mathlib.Core.List.{List, [], _∷_, _++_}
 use mathlib.Core.Path.{_≡_}
 use Prim.Native.Nat.{ℕ}
 use Rattle.lines.specs.Decimal.{DecimalText}
 use Rattle.report.specs.Block.{SessionsCompose, LinesCompose}
 use Rattle.report.specs.Program.{printedOf, ReadsDoNotMatter, TailRefused, SessionOfHistory}
+use Rattle.stream.specs.Run.{RunsWrite}
 use Rattle.claims.specs.RecordExample.{input}
 
 -- "157079633 78539816" and "moved 1 refused 0", each with a line feed
@@ -27,6 +28,8 @@ pub record Printing : Type 0 where
   pub lines : LinesCompose
   -- however the reads cut the input, the output is that of the whole input
   pub reads : ReadsDoNotMatter
+  -- what a run has written by its phase, whatever its reads and writes come to: only one that ended has written the last line
+  pub runs : RunsWrite
   -- a tail shorter than 16 bytes prints "refused 8", and no count changes
   pub tail : TailRefused
   -- the counts of the last line are those of the history of all whole records

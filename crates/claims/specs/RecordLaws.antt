@@ -17,17 +17,17 @@ use Rattle.session.specs.Session.{isFull, feedOf}
 use Rattle.claims.specs.Demand3.{numbers, OneMeridian, Alike, TurnedX, TurnedY, SamePosition, ClosePlace}
 
 -- a call: what it takes beside its two pieces, when that is full, and the answer by the input and the output's length
-pub record Handing : Type 1 where
+pub record RecordCall : Type 1 where
   pub State : Type 0
   pub isFull : State → Bool
   pub answer : State → List ℕ → ℕ → Outcome (ℤ × ℤ)
 
 -- convert_record takes nothing else
-abbrev pub converting : Handing
+abbrev pub converting : RecordCall
 converting = record { State = Unit {0}; isFull = λ _. false; answer = λ _ input output. convertOf input output }
 
 -- feed takes a session
-abbrev pub feeding : Handing
+abbrev pub feeding : RecordCall
 feeding = record { State = Session; isFull = isFull; answer = feedOf }
 
 -- two pieces alike in length, mark, kind and form
@@ -60,10 +60,10 @@ pub record OtherLongitude (s t : List ℕ) (l : ℤ) : Type 0 where
   pub longitude : firstIn t ≡ l
   pub latitude : secondIn t ≡ secondIn s
 
-module _ (h : Handing) where
-  -- a moved record fed on, with any session and any output piece: refused by 8 exactly when the piece is not of 16 bytes, by
+module _ (h : RecordCall) where
+  -- a moved record fed again, with any session and any output piece: refused by 8 exactly when the piece is not of 16 bytes, by
   -- 11 exactly when it is and the session is full, by nothing else; else it is accepted, and the answer stands in P
-  pub record FedOn (bytes : List ℕ) (P : ℤ × ℤ → Type 0) (t : h .State) (output : ℕ) : Type 0 where
+  pub record FedAgain (bytes : List ℕ) (P : ℤ × ℤ → Type 0) (t : h .State) (output : ℕ) : Type 0 where
     pub by-8 : (h .answer t bytes output ≡ refused 8) ↔ (output ≢ size)
     pub by-11 : (h .answer t bytes output ≡ refused 11) ↔ ((output ≡ size) × (h .isFull t ≡ true))
     pub nothing-else : (n : ℕ) → h .answer t bytes output ≡ refused n → (n ≡ 8) ⊎ (n ≡ 11)
@@ -87,14 +87,14 @@ module _ (h : Handing) where
         Alike (TurnedX numbers) (h .answer t s output) (h .answer t s' output)
     pub turning-y : (t : h .State) (s s' : List ℕ) (output : ℕ) → formIn s ≢ place → TurnedNorth s s' →
         Alike (TurnedY numbers) (h .answer t s output) (h .answer t s' output)
-    -- what the first call wrote is fed on as it stands
+    -- what the first call wrote is fed to the second as it stands
     pub forward-back : (t t' : h .State) (s out : List ℕ) (output' : ℕ) (p : ℤ × ℤ) → formIn s ≡ position →
         h .answer t s (length out) ≡ given p →
-        FedOn (outputAfter s out (h .answer t s (length out)))
+        FedAgain (outputAfter s out (h .answer t s (length out)))
         (λ (q : ℤ × ℤ). SamePosition numbers (kindIn s) (centralIn s) (firstIn s) (secondIn s) (q .0) (q .1)) t' output'
     pub sharing : (t : h .State) (s : List ℕ) (output : ℕ) (p : ℤ × ℤ) → formIn s ≡ position → h .answer t s output ≡ given p →
         halfWidth (rowOf (kindIn s)) (natAbs (secondIn s)) < N → SharedRecord t s output
     pub back-forward : (t t' : h .State) (s out : List ℕ) (output' : ℕ) (p : ℤ × ℤ) → formIn s ≡ place →
         h .answer t s (length out) ≡ given p →
-        FedOn (outputAfter s out (h .answer t s (length out)))
+        FedAgain (outputAfter s out (h .answer t s (length out)))
         (λ (q : ℤ × ℤ). ClosePlace numbers (kindIn s) (centralIn s) (firstIn s) (secondIn s) (q .0) (q .1)) t' output'

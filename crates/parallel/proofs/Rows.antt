@@ -17,7 +17,7 @@ use Rattle.parallel.specs.declared.table.Row.{Row}
 use Rattle.parallel.specs.Table.{rows, noRow, rowOf}
 use Rattle.parallel.specs.Parallel.{radicand, rootBy, rootAt, numerator}
 use Rattle.parallel.specs.Refusal.{isKind}
-use Rattle.parallel.specs.Columns.{Columns, idle, rootAtEquator, rootAtPole, mostNumerator}
+use Rattle.parallel.specs.Columns.{Columns, unusedSize, rootAtEquator, rootAtPole, mostNumerator}
 use Rattle.parallel.proofs.Every.{conj, Claim, lt, le, tests, Holds, holds, every, every-at}
 
 -- the claim `NotBelow`
@@ -27,7 +27,7 @@ below x u y v = le (minus x * u + minus y * v) (plus x * u + plus y * v)
 -- the fields of `Columns`
 claims : Row → List Claim
 claims r =
-    le (idle (r .method) (r .b)) 0
+    le (unusedSize (r .method) (r .b)) 0
     ∷ lt N (r .ky)
     ∷ lt (r .ky) (5 * N)
     ∷ lt (natAbs (r .a)) 16

@@ -36,15 +36,15 @@ unfoldable pub mostNumerator : Row → ℕ
 mostNumerator r = max (numerator r (rootAtEquator r)) (numerator r (rootAtPole r))
 
 -- the size of b where q is not used
-abbrev pub idle : Method → ℤ → ℕ
-idle Unused b = natAbs b
-idle Root b = 0
-idle Quotient b = 0
+abbrev pub unusedSize : Method → ℤ → ℕ
+unusedSize Unused b = natAbs b
+unusedSize Root b = 0
+unusedSize Quotient b = 0
 
 -- b is 0 where q is not used; N < KY < 5 N; sizes that keep every sum and product inside 64 bits; KX |b| < M, so that q's
 -- floor costs less than half a unit; and, at the ends of a meridian, s and a M + b q are not below 0 and W is less than 5 N
 pub record Columns (r : Row) : Type 0 where
-  pub b-used : idle (r .method) (r .b) ≤ 0
+  pub b-used : unusedSize (r .method) (r .b) ≤ 0
   pub ky-low : N < r .ky
   pub ky-high : r .ky < 5 * N
   pub a-small : natAbs (r .a) < 16

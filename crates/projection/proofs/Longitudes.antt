@@ -8,7 +8,7 @@ use lib.IntN.{ℤ, pos, negsuc, negℤ, natAbs, _+ℤ_, negℤ-+ℤ, negℤ-neg�
 use Rattle.whole.specs.Signed.{withSign, plus, minus}
 use Rattle.whole.proofs.Signs.{parts, sum, natAbs-neg, less-west}
 use Rattle.angle.specs.Angle.{N, outside}
-use Rattle.projection.specs.Longitude.{aTurnBack, wrap, differenceOf, longitudeOf}
+use Rattle.projection.specs.Longitude.{reduced, wrap, differenceOf, longitudeOf}
 
 -- the three ways from z to its wrap r
 pub data Wrapped (z r : ℤ) : Type 0 where
@@ -16,16 +16,16 @@ pub data Wrapped (z r : ℤ) : Type 0 where
   down : N < plus z → plus r + (2 * N + minus z) ≡ minus r + plus z → Wrapped z r
   up : N < minus z → plus r + minus z ≡ minus r + (2 * N + plus z) → Wrapped z r
 
-a-turn-back : (z : ℤ) → N < natAbs z → Wrapped z (aTurnBack z)
-a-turn-back (pos n) h = down h (omega (arith, sum (pos n) (negℤ (pos (2 * N)))))
-a-turn-back (negsuc n) h = up h (omega (arith, sum (negsuc n) (pos (2 * N))))
+reduced-is : (z : ℤ) → N < natAbs z → Wrapped z (reduced z)
+reduced-is (pos n) h = down h (omega (arith, sum (pos n) (negℤ (pos (2 * N)))))
+reduced-is (negsuc n) h = up h (omega (arith, sum (negsuc n) (pos (2 * N))))
 
 pub wrapped : (z : ℤ) → Wrapped z (wrap z)
 unfolding wrap
 wrapped z = go (outside N z) refl
   where
-    go : (b : Bool) → outside N z ≡ b → Wrapped z (cond b (aTurnBack z) z)
-    go true e = a-turn-back z (ltb-true N (natAbs z) e)
+    go : (b : Bool) → outside N z ≡ b → Wrapped z (cond b (reduced z) z)
+    go true e = reduced-is z (ltb-true N (natAbs z) e)
     go false e = stay (ltb-false N (natAbs z) e) (omega arith)
 
 pub wrap-near : (z : ℤ) → natAbs z ≤ N → wrap z ≡ z

@@ -48,6 +48,7 @@ use Rattle.report.specs.Block.{recordAt, answerAt, sessionAt, linesOf, tailOf, 
 use Rattle.report.specs.Program.{endOf, printedFrom, printedOf}
 use Rattle.report.proofs.Blocks.{sessions-compose, lines-compose}
 use Rattle.report.proofs.Streams.{reads-do-not-matter, tail-refused, session-of-history}
+use Rattle.stream.proofs.Runs.{runs-write}
 use Rattle.claims.specs.Arithmetic.{Arithmetic}
 use Rattle.claims.specs.Demand1.{numbersOf, byForm, Demand1}
 use Rattle.claims.specs.Demand2.{Demand2, Parallel}
@@ -67,7 +68,7 @@ use Rattle.claims.proofs.Returning.{forward-back}
 use Rattle.claims.proofs.Sharing.{sharing}
 use Rattle.claims.proofs.Resending.{back-forward}
 use Rattle.claims.proofs.Sharpness.{sharp}
-use Rattle.claims.proofs.Ways.{by-numbers}
+use Rattle.claims.proofs.Calls.{by-numbers}
 use Rattle.claims.proofs.Floats.{floats-by-numbers}
 use Rattle.claims.proofs.Pieces.{converting-answers, feeding-answers}
 use Rattle.claims.proofs.Records.{records-by-numbers}
@@ -213,6 +214,7 @@ printing =
       sessions = sessions-compose;
       lines = lines-compose;
       reads = reads-do-not-matter;
+      runs = runs-write;
       tail = tail-refused;
       counts = session-of-history;
       document = rw fed-answer;

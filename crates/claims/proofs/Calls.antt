@@ -1,4 +1,4 @@
--- A way whose answers are those of numbers at the numbers read, and whose answers read back as themselves, has demand 3.
+-- Calls whose answers are those of numbers at the numbers read, and whose answers read back as themselves, have demand 3.
 use mathlib.Core.Logic.{_↔_}
 use mathlib.Core.Path.{_≡_, sym, subst, _∙_}
 use Prim.Native.Nat.{ℕ, _≤_}
@@ -6,7 +6,7 @@ use lib.IntN.{ℤ, negℤ, natAbs}
 use Rattle.angle.specs.Angle.{N}
 use Rattle.parallel.specs.Refusal.{Outcome, refused, given}
 use Rattle.projection.specs.Answer.{forwardOf, inverseOf}
-use Rattle.claims.specs.Demand3.{Way, numbers, SameAt, Alike, TurnedX, TurnedY, Returns, Shares, Resends, Demand3}
+use Rattle.claims.specs.Demand3.{Calls, numbers, SameAt, Alike, TurnedX, TurnedY, Returns, Shares, Resends, Demand3}
 use Rattle.claims.proofs.Accepted.{position}
 
 -- an outcome gives two things that stand for two numbers
@@ -17,14 +17,14 @@ pub record Given {A : Type 0} (read : A → ℤ) (o : Outcome (A × A)) (p : ℤ
   pub first-is : read first ≡ p .0
   pub second-is : read second ≡ p .1
 
-module _ (w : Way) where
-  -- what a way itself accepts: as a meridian, as a latitude, as a coordinate
+module _ (w : Calls) where
+  -- what the calls themselves accept: as a meridian, as a latitude, as a coordinate
   pub record Accepts : Type 1 where
     pub Meridian : w .Angle → Type 0
     pub Latitude : w .Angle → Type 0
     pub Place : w .Coordinate → Type 0
 
-  -- a call that is answered takes what the way accepts, gives what it accepts, and is answered on numbers too
+  -- a call that is answered takes what the calls accept, gives what they accept, and is answered on numbers too
   pub record Sent (a : Accepts) (kind : ℕ) (c l f : w .Angle) (x y : w .Coordinate) : Type 0 where
     pub central : a .Meridian c
     pub longitude : a .Meridian l
@@ -59,7 +59,7 @@ module _ (w : Way) where
     -- every meridian can be handed in
     pub meridian : (z : ℤ) → natAbs z ≤ N → (a : w .Angle) × accepts .Meridian a × (w .centiseconds a ≡ z)
 
-module _ (d : Demand3 numbers) (w : Way) (b : ByNumbers w) where
+module _ (d : Demand3 numbers) (w : Calls) (b : ByNumbers w) where
   turning-x : (kind : ℕ) (c c' l l' f : w .Angle) → w .Turned c c' → w .Turned l l' →
       Alike (TurnedX w) (w .forward kind c l f) (w .forward kind c' l' f)
   turning-x kind c c' l l' f h k =
@@ -113,7 +113,7 @@ module _ (d : Demand3 numbers) (w : Way) (b : ByNumbers w) where
         close = record { y-close = rw (g .second-is) (r .close .y-close); x-close = rw (g .first-is) (r .close .x-close) };
       }
 
-  -- one of two meridians that share a place, handed in this way
+  -- one of two meridians that share a place, handed in like this
   shared : (kind : ℕ) (c f : w .Angle) (z : ℤ) (p : ℤ × ℤ) → b .accepts .Meridian c → b .accepts .Latitude f →
       forwardOf kind (w .centiseconds c) z (w .centiseconds f) ≡ given p →
       (a : w .Angle) × (w .centiseconds a ≡ z) × Given (w .units) (w .forward kind c a f) p
