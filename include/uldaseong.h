@@ -19,8 +19,9 @@
  * The first that applies is given, in the order 8, 11, 9, 10, 1, 2, 3, then 4 and 5 for a position, or 6 and 7 for a place. On a
  * refusal nothing lent has changed, but that a session counts it (8 and 11 are not counted).
  *
- * Pointers are aligned and not null, not even for a length of 0, and what is lent for writing overlaps nothing else that is
- * lent. Functions keep nothing between calls: they may be called from several threads on different memory.
+ * What a caller owes: pointers are aligned and not null, not even for a length of 0; what is lent for writing overlaps nothing else
+ * that is lent; and the floating-point unit rounds to nearest (FE_TONEAREST, as every program starts), since under another mode
+ * the last bit of degrees may differ. Functions keep nothing between calls: they may be called from several threads on different memory.
  */
 #ifndef ULDASEONG_H
 #define ULDASEONG_H
