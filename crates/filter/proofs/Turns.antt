@@ -1,13 +1,13 @@
 -- The turns of a run: the room of a read, and the turns that are left.
-use mathlib.Core.Path.{_≡_, refl, sym, ap, _∙_}
+use mathlib.Core.Path.{_≡_, refl, ap, _∙_}
 use mathlib.Core.Bool.{Bool, true, false, cond}
-use mathlib.Core.List.{List, _++_}
+use mathlib.Core.List.{List}
 use Prim.Native.Nat.{ℕ, _+_, _-_, _*_, _/_, _≤_, _<_}
 use native.Mathlib.Omega.{arith}
 use borrow.Author.Tests.{le-leb}
 use lib.Dec.{eqb}
 use lib.IntN.{ℤ, pos, negsuc}
-use lib.ListN.{length, take, drop, length-append}
+use lib.ListN.{length, drop, length-append}
 use Rattle.libc.specs.Io.{Moved}
 use Rattle.record.specs.Record.{size}
 use Rattle.lines.specs.Buffer.{putFront}
@@ -21,7 +21,8 @@ use Rattle.stream.specs.declared.state.Got.{Got}
 use Rattle.stream.specs.declared.state.Got.the-variants.{Bytes, End, Interrupted, Failed}
 use Rattle.stream.specs.declared.step.Step.{Step}
 use Rattle.stream.specs.Run.{Standing, Turn, turned, goOn, afterRead, afterWrite}
-use Rattle.stream.specs.Step.{tryAgain, gotOf, gotByError, bytesOf, withRoom, readIn, standing, writeAfter, Holds, Follows, FollowsIn}
+use Rattle.stream.specs.Step.{eintr, gotOf, gotByError, bytesOf, withRoom, readIn, standing, writeAfter, Holds, Follows}
+use Rattle.stream.specs.Inside.{FollowsIn}
 use Rattle.stream.proofs.Steps.{write-stands, write-held, few-after}
 use Rattle.filter.specs.Turns.{records, most, Room, TurnsBy, leftIn}
 
@@ -41,7 +42,7 @@ few-came (negsuc n) error m = by-error error
     choice false = omega arith
 
     by-error : (error : ℤ) → bytesOf (gotByError error) ≤ most
-    by-error (pos k) = choice (eqb k tryAgain)
+    by-error (pos k) = choice (eqb k eintr)
     by-error (negsuc k) = omega arith
 
 -- there is always room

@@ -2,7 +2,7 @@
 use mathlib.Core.Path.{_≡_}
 use mathlib.Core.List.{List}
 use Prim.Native.Nat.{ℕ, _+_, _*_, _<_}
-use lib.ListN.{length, take}
+use lib.ListN.{length}
 use Rattle.record.specs.Record.{size}
 use Rattle.lines.specs.Line.{lineRoom}
 use Rattle.stream.specs.declared.job.Job.{Job}

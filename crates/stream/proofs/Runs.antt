@@ -14,7 +14,7 @@ use Rattle.stream.specs.declared.job.Job.the-variants.{Convert}
 use Rattle.stream.specs.declared.state.Phase.{Phase}
 use Rattle.stream.specs.declared.state.Phase.the-variants.{Reading, Ended, NotStarted, NotRead, NotWritten}
 use Rattle.stream.specs.Job.{blockOf, sessionOf, endingOf, resultOf}
-use Rattle.stream.specs.Run.{Standing, start, phaseAtStart, Read, came, ended, interrupted, failed, bytesIn, offered, afterRead, afterWrite, Turn, turned, goOn, standingOf, inputOf, writtenOf, Cut, Wrote, RunsWrite}
+use Rattle.stream.specs.Run.{Standing, start, phaseAtStart, Read, came, ended, interrupted, failed, bytesIn, offered, afterRead, afterWrite, Turn, turned, goOn, standingOf, inputOf, writtenOf, Wrote, RunsWrite}
 
 -- ---- what the job makes of bytes that come behind others
 

@@ -6,7 +6,7 @@ use Prim.Native.Nat.{ℕ, zero, suc, _+_, _*_, _/_, _≤_, _<_}
 use native.Mathlib.Omega.{arith}
 use borrow.Author.Tests.{leb-true}
 use lib.Dec.{leb}
-use lib.ListN.{length, take, drop, length-drop, take-append-drop}
+use lib.ListN.{length, take, drop, length-drop}
 use lib.Seq.{take-add, take-at, length-take-le}
 use Rattle.record.specs.Record.{size}
 use Rattle.lines.specs.Buffer.{putFront}
@@ -22,7 +22,8 @@ use Rattle.stream.specs.declared.state.Got.the-variants.{Bytes as Some, 
 use Rattle.stream.specs.declared.step.Step.{Step}
 use Rattle.stream.specs.Job.{endingOf}
 use Rattle.stream.specs.Run.{Read, came, ended, interrupted, failed, offered, afterRead, afterWrite}
-use Rattle.stream.specs.Step.{bytesOf, fits, withRoom, Ready, Holds, TakesIn, FollowsIn, heldAfter, standing, writeAfter}
+use Rattle.stream.specs.Step.{bytesOf, withRoom, Holds, heldAfter, standing, writeAfter}
+use Rattle.stream.specs.Inside.{Ready, TakesIn, FollowsIn}
 
 -- ---- room
 

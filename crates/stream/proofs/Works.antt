@@ -1,7 +1,7 @@
 -- What the work of a job leaves in the text and in the buffer.
-use mathlib.Core.Path.{_≡_, refl, sym, ap, _∙_}
+use mathlib.Core.Path.{_≡_, refl, _∙_}
 use mathlib.Core.Bool.{true}
-use mathlib.Core.List.{List, _++_}
+use mathlib.Core.List.{List}
 use Prim.Native.Nat.{ℕ, _-_, _*_, _%_, _≤_}
 use native.Mathlib.Omega.{arith}
 use borrow.Author.Tests.{le-leb}
@@ -23,7 +23,8 @@ use Rattle.stream.specs.declared.job.Job.the-variants.{Convert}
 use Rattle.stream.specs.declared.job.Worked.{Worked}
 use Rattle.stream.specs.declared.state.Phase.the-variants.{Reading}
 use Rattle.stream.specs.Job.{blockOf, sessionOf, endingOf}
-use Rattle.stream.specs.Step.{countOf, Holds, Works, TakesIn}
+use Rattle.stream.specs.Step.{Holds}
+use Rattle.stream.specs.Inside.{countOf, Works, TakesIn}
 
 -- text that was placed
 placed-holds : {lines l l′ : List ℕ} (answer : Text) → Placed true lines l answer l′ → Holds lines l (countOf answer) l′

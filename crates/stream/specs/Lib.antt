@@ -1,3 +1,4 @@
 pub mod Job
 pub mod Run
 pub mod Step
+pub mod Inside

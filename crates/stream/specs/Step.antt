@@ -2,26 +2,20 @@
 use mathlib.Core.Path.{_≡_}
 use mathlib.Core.Bool.{Bool, true, false, cond, _&&_}
 use mathlib.Core.List.{List}
-use Prim.Native.Nat.{ℕ, _+_, _*_, _/_, _%_, _≤_}
+use Prim.Native.Nat.{ℕ, _+_, _*_, _/_, _%_}
 use lib.Dec.{eqb, leb}
 use lib.IntN.{ℤ, pos, negsuc}
 use lib.ListN.{length, take, drop}
 use Rattle.record.specs.Record.{size}
-use Rattle.session.specs.declared.Session.{Session}
-use Rattle.lines.specs.declared.buffer.Text.{Text}
-use Rattle.lines.specs.declared.buffer.Text.the-variants.{Bytes, TooShort}
 use Rattle.lines.specs.Buffer.{putFront}
 use Rattle.lines.specs.Line.{lineRoom}
-use Rattle.report.specs.Block.{tailOf}
 use Rattle.report.specs.Program.{endRoom}
 use Rattle.stream.specs.declared.job.Job.{Job}
-use Rattle.stream.specs.declared.job.Worked.{Worked}
-use Rattle.stream.specs.declared.state.Phase.the-variants.{Reading, NotWritten}
+use Rattle.stream.specs.declared.state.Phase.the-variants.{NotWritten}
 use Rattle.stream.specs.declared.state.State.{State}
 use Rattle.stream.specs.declared.state.Got.{Got}
 use Rattle.stream.specs.declared.state.Got.the-variants.{Bytes as Some, End, Interrupted, Failed}
 use Rattle.stream.specs.declared.step.Step.{Step}
-use Rattle.stream.specs.Job.{blockOf, sessionOf}
 use Rattle.stream.specs.Run.{Standing, Read, came, ended, interrupted, failed, offered, afterRead}
 
 -- where a run stands: the bytes held over are at the front of the buffer
@@ -29,12 +23,12 @@ abbrev pub standing : State → List ℕ → Standing
 standing state buffer = record { session = state .session; rest = take (state .held) buffer; phase = state .phase }
 
 -- the number of the error of a call that a signal interrupted
-abbrev pub tryAgain : ℕ
-tryAgain = 4
+abbrev pub eintr : ℕ
+eintr = 4
 
 -- what a read came to, by its answer and the error's number: only the answer 0 is the end
 abbrev pub gotByError : ℤ → Got
-gotByError (pos n) = cond (eqb n tryAgain) Interrupted Failed
+gotByError (pos n) = cond (eqb n eintr) Interrupted Failed
 gotByError (negsuc n) = Failed
 
 abbrev pub gotOf : ℤ → ℤ → Got
@@ -68,24 +62,6 @@ pub record Holds (text l : List ℕ) (count : ℕ) (l′ : List ℕ) : Type 0 wh
   pub counted : count ≡ length text
   pub holds : l′ ≡ putFront l text
 
--- how many bytes of text there are
-abbrev pub countOf : Text → ℕ
-countOf (Bytes n) = n
-countOf TooShort = 0
-
--- what `work` answers on a run of bytes s in a session t, and what the text becomes
-pub record Works (job : Job) (t : Session) (s text : List ℕ) (r : Worked) (text′ : List ℕ) : Type 0 where
-  pub session : r .session ≡ sessionOf job t s
-  pub offers : Holds (blockOf job t s) text (r .offered) text′
-
--- what `take_in` answers on the first bytes of a buffer in a session t, and what the buffer and the text become
-pub record TakesIn (job : Job) (t : Session) (total : ℕ) (buffer text : List ℕ) (r : Step) (buffer′ text′ : List ℕ) : Type 0 where
-  pub session : r .state .session ≡ sessionOf job t (take total buffer)
-  pub held : r .state .held ≡ length (tailOf (take total buffer))
-  pub reading : r .state .phase ≡ Reading
-  pub left-over : buffer′ ≡ putFront buffer (tailOf (take total buffer))
-  pub offers : Holds (blockOf job t (take total buffer)) text (r .offered) text′
-
 -- how many bytes are held over after a read
 abbrev pub heldAfter : ℕ → Read → ℕ
 heldAfter held (came b) = (held + length b) % size
@@ -100,19 +76,10 @@ pub record FollowsBy (job : Job) (state : State) (read : Read) (buffer text : Li
   pub left-over : buffer′ ≡ putFront buffer (afterRead job (standing state buffer) read .rest)
   pub offers : Holds (offered job (standing state buffer) read) text (r .offered) text′
 
-abbrev pub FollowsIn : Job → State → Got → List ℕ → List ℕ → Step → List ℕ → List ℕ → Type 0
-FollowsIn job state got buffer text = FollowsBy job state (readIn got (drop (state .held) buffer)) buffer text
-
--- with room or without
+-- by what the read came to, with room or without
 abbrev pub Follows : Job → State → Got → List ℕ → List ℕ → Step → List ℕ → List ℕ → Type 0
-Follows job state got buffer text = FollowsIn job state (withRoom got (state .held) (length buffer) (length text)) buffer text
-
--- there is room
-abbrev pub Ready : Got → ℕ → ℕ → ℕ → Type 0
-Ready (Some n) held buffer text = (held + n ≤ buffer) × (lineRoom * ((held + n) / size) ≤ text)
-Ready End held buffer text = (held ≤ buffer) × (endRoom ≤ text)
-Ready Interrupted held buffer text = Unit {0}
-Ready Failed held buffer text = Unit {0}
+Follows job state got buffer text =
+    FollowsBy job state (readIn (withRoom got (state .held) (length buffer) (length text)) (drop (state .held) buffer)) buffer text
 
 -- what follows a write
 abbrev pub writeAfter : Bool → State → State

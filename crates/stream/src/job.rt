@@ -2,12 +2,12 @@
 ghost use mathlib.Core.Path.{_≡_};
 ghost use Prim.Native.Nat.{_*_, _≤_};
 ghost use lib.ListN.{length};
-ghost use Rattle.lines.specs.Buffer.{Placed};
 ghost use Rattle.lines.specs.Line.{lineRoom};
 ghost use Rattle.report.specs.Block.{recordsIn};
 ghost use Rattle.report.specs.Program.{endRoom};
 ghost use Rattle.stream.specs.Job.{endingOf};
-ghost use Rattle.stream.specs.Step.{Works, Holds, countOf};
+ghost use Rattle.stream.specs.Step.{Holds};
+ghost use Rattle.stream.specs.Inside.{countOf, Works};
 use lines::Text;
 use report::convert_block;
 use report::last_lines;

@@ -1,6 +1,5 @@
 -- `stream::room::with_room` meets its contract.
 use mathlib.Core.Path.{_≡_, sym, _∙_}
-use mathlib.Core.Bool.{true, false}
 use borrow.Author.Needs.{needs}
 use Rattle.stream.specs.Step.{bytesOf, fits}
 use Rattle.stream.proofs.room.with_room.Statement.{statement}

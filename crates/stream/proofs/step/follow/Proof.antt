@@ -10,7 +10,7 @@ use Rattle.record.specs.Record.{size}
 use Rattle.lines.specs.Line.{lineRoom}
 use Rattle.report.specs.Program.{endRoom}
 use Rattle.stream.specs.declared.state.Got.{Got}
-use Rattle.stream.specs.Step.{Ready}
+use Rattle.stream.specs.Inside.{Ready}
 use Rattle.stream.proofs.Steps.{follows-bytes, follows-end, follows-interrupted, follows-failed}
 use Rattle.stream.proofs.step.follow.Statement.{statement}
 use Rattle.stream.proofs.step.follow.Tie as tie
