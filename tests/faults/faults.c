@@ -1,6 +1,7 @@
 /* A library to be loaded before libc: chosen reads of standard input and writes of standard output go wrong, each once.
-   FAULTS names them, as in "read:2:short,read:3:eintr": the call, which one from 1, and how: eio and eintr fail with that error,
-   short moves 7 bytes at most. Each fault leaves an x on descriptor 9, so that a test sees that it happened. */
+   FAULTS names them, as in "read:2:short,read:3:eintr": the call, which one from 1, or 0 for every one, and how: eio, eagain and
+   eintr fail with that error, short moves 7 bytes at most and byte one. Each fault leaves an x on descriptor 9, so that a test
+   sees that it happened. */
 #define _GNU_SOURCE
 #include <errno.h>
 #include <stdio.h>
@@ -16,7 +17,7 @@ static const char *fault(const char *name, long n) {
     while (list != NULL && *list != '\0') {
         char call[16];
         long which;
-        if (sscanf(list, "%15[a-z]:%ld:%15[a-z]", call, &which, how) == 3 && which == n && strcmp(call, name) == 0) {
+        if (sscanf(list, "%15[a-z]:%ld:%15[a-z]", call, &which, how) == 3 && (which == n || which == 0) && strcmp(call, name) == 0) {
             return how;
         }
         list = strchr(list, ',');
@@ -37,7 +38,10 @@ static long allowed(const char *name, long n, size_t size) {
     if (strcmp(how, "short") == 0) {
         return size < 7 ? (long)size : 7;
     }
-    errno = strcmp(how, "eintr") == 0 ? EINTR : EIO;
+    if (strcmp(how, "byte") == 0) {
+        return size < 1 ? 0 : 1;
+    }
+    errno = strcmp(how, "eintr") == 0 ? EINTR : strcmp(how, "eagain") == 0 ? EAGAIN : EIO;
     return -1;
 }
 

@@ -1,5 +1,5 @@
 -- Either side of each line of demand 3, and its exceptions: by computing.
-use mathlib.Core.Logic.{inr, _≢_, ⊎-elim}
+use mathlib.Core.Logic.{inl, inr, _≢_, ⊎-elim}
 use mathlib.Core.Path.{_≡_, refl, ap}
 use Prim.Native.Nat.{ℕ}
 use native.Mathlib.Omega.{arith}
@@ -44,11 +44,13 @@ sharp =
     record {
       close = λ z. (rw (above z 2) (omega arith), rw (below z 2) (omega arith));
       not-close = λ z. (λ h. let e = above z 3 in omega arith, λ h. let e = below z 3 in omega arith);
-      one = inr (refl, refl);
+      one-self = λ l. inl refl;
+      one = (inr (refl, refl), inr (refl, refl));
+      one-only = λ l m h. ⊎-elim (λ e. e) (λ e. absurd (h (e .0)));
       not-one = (⊎-elim (differ (omega arith)) (omega arith), ⊎-elim (differ (omega arith)) (omega arith));
-      not-one-by-size = ⊎-elim (differ (omega arith)) (omega arith);
       same = inr (differ (omega arith), refl, refl);
-      not-same-at-0 = ⊎-elim (differ (omega arith)) (λ e. e .0 refl);
+      same-only = λ c m l h. ⊎-elim (λ e. e) (λ e. absurd (h (e .1)));
+      same-at-0 = λ m l. ⊎-elim (λ e. e) (λ e. absurd (e .0 refl));
       not-same = (⊎-elim (differ (omega arith)) (λ e. omega arith), ⊎-elim (differ (omega arith)) (λ e. omega arith));
       wide = refl;
       longitude-held = λ s. ⊎-elim (differ (omega arith)) (λ e. omega arith) (s .longitude-same (omega arith));

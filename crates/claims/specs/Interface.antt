@@ -12,7 +12,7 @@ use Rattle.degrees.specs.Answer.{forwardOf as forwardDegrees, inverseOf as inve
 use Rattle.record.specs.Answer.{convertOf}
 use Rattle.session.specs.declared.Session.{Session}
 use Rattle.session.specs.Session.{feedOf}
-use Rattle.uldaseong.specs.Status.{statusOf, sessionIn, countsOf}
+use Rattle.uldaseong.specs.Status.{statusOf, pairAfter, sessionIn, countsOf}
 
 abbrev pub Converted : {A : Type 0} → Outcome A → Type 0
 Converted (given a) = Unit {0}
@@ -30,6 +30,9 @@ pub record Interface : Type 0 where
   pub inverse-degrees : (kind : ℕ) (central x y : Float) → Tells (inverseDegrees kind central x y)
   pub convert-record : (input : List ℕ) (output : ℕ) → Tells (convertOf input output)
   pub feed : (session : Session) (input : List ℕ) (output : ℕ) → Tells (feedOf session input output)
+  -- the lent pair has x and then y, or longitude and then latitude; a refusal leaves it
+  pub pair-given : (pair : List ℤ) (first second : ℤ) → pairAfter pair (given (first, second)) ≡ first ∷ second ∷ []
+  pub pair-refused : (pair : List ℤ) (n : ℕ) → pairAfter pair (refused n) ≡ pair
   -- a session is kept as its two counts, moved and then refused, and nothing is lost either way
   pub counts-are : (session : Session) → countsOf session ≡ session .moved ∷ session .refused ∷ []
   pub session-kept : (session : Session) → sessionIn (countsOf session) ≡ session

@@ -1,12 +1,13 @@
--- What the program prints of an input: that of the whole input, whatever pieces it comes in and whatever goes wrong between them,
--- in text that is what it should be.
+-- What the program prints of an input: that of the whole input, whatever pieces it comes in, or where a read or a write fails the
+-- lines of whole records alone; in text that is what it should be.
 use mathlib.Core.List.{List, [], _∷_, _++_}
 use mathlib.Core.Path.{_≡_}
 use Prim.Native.Nat.{ℕ}
 use Rattle.lines.specs.Decimal.{DecimalText}
 use Rattle.report.specs.Block.{SessionsCompose, LinesCompose}
 use Rattle.report.specs.Program.{printedOf, ReadsDoNotMatter, TailRefused, SessionOfHistory}
-use Rattle.stream.specs.Run.{RunsWrite}
+use Rattle.stream.specs.declared.job.Job.{Job}
+use Rattle.stream.specs.Run.{RunsWrite, RunsEnd}
 use Rattle.claims.specs.RecordExample.{input}
 
 -- "157079633 78539816" and "moved 1 refused 0", each with a line feed
@@ -30,6 +31,8 @@ pub record Printing : Type 0 where
   pub reads : ReadsDoNotMatter
   -- what a run has written by its phase, whatever its reads and writes come to: only one that ended has written the last line
   pub runs : RunsWrite
+  -- and a run whose reads and writes go well ends with its input
+  pub runs-end : (job : Job) → RunsEnd job
   -- a tail shorter than 16 bytes prints "refused 8", and no count changes
   pub tail : TailRefused
   -- the counts of the last line are those of the history of all whole records

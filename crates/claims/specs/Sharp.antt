@@ -1,7 +1,8 @@
--- Either side of each line that demand 3 draws, so that none can be moved unseen; and its exceptions, as worked cases.
+-- Either side of the lines that demand 3 draws; and its exceptions, as worked cases.
+use mathlib.Core.Logic.{_≢_}
 use mathlib.Core.Path.{_≡_}
 use Prim.Native.Nat.{ℕ}
-use lib.IntN.{ℤ, pos, _+ℤ_}
+use lib.IntN.{ℤ, pos, natAbs, _+ℤ_}
 use Rattle.parallel.specs.Table.{neg}
 use Rattle.parallel.specs.Refusal.{given}
 use Rattle.parallel.specs.Answer.{widthOf}
@@ -22,13 +23,15 @@ pub record Sharp : Type 0 where
   -- numbers 2 apart are close, and those 3 apart are not
   pub close : (z : ℤ) → Close (z +ℤ pos 2) z × Close z (z +ℤ pos 2)
   pub not-close : (z : ℤ) → (Close (z +ℤ pos 3) z → ⊥) × (Close z (z +ℤ pos 3) → ⊥)
-  -- 180 west and 180 east are one meridian; 180 and 0 are not, nor are 1 and -1
-  pub one : OneMeridian (neg 64800000) (pos 64800000)
+  -- a longitude is one meridian with itself, 180 west and 180 east are one, and no other two are
+  pub one-self : (l : ℤ) → OneMeridian l l
+  pub one : OneMeridian (neg 64800000) (pos 64800000) × OneMeridian (pos 64800000) (neg 64800000)
+  pub one-only : (l m : ℤ) → natAbs l ≢ 64800000 → OneMeridian l m → l ≡ m
   pub not-one : (OneMeridian (pos 64800000) (pos 0) → ⊥) × (OneMeridian (pos 0) (pos 64800000) → ⊥)
-  pub not-one-by-size : OneMeridian (pos 1) (neg 1) → ⊥
-  -- 180 west and 180 east are the same longitude, but not with a central meridian of 0; 180 and 0 never are
+  -- the same longitude are those two alone, and not with a central meridian of 0
   pub same : SameAt (pos 3600000) (neg 64800000) (pos 64800000)
-  pub not-same-at-0 : SameAt (pos 0) (neg 64800000) (pos 64800000) → ⊥
+  pub same-only : (c m l : ℤ) → natAbs m ≢ 64800000 → SameAt c m l → m ≡ l
+  pub same-at-0 : (m l : ℤ) → SameAt (pos 0) m l → m ≡ l
   pub not-same : (SameAt (pos 3600000) (pos 64800000) (pos 0) → ⊥) × (SameAt (pos 3600000) (pos 0) (pos 64800000) → ⊥)
   -- on a parallel of half-width 64800001 another longitude is another position, and even at the pole another latitude is
   pub wide : widthOf 7 (pos 27899493) ≡ given 64800001

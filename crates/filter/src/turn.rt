@@ -41,7 +41,7 @@ pub fn run(job: Job) {
     let mut text = [0u8; TEXT];
     let state = turns(job, os::arg_count(), &mut buffer, &mut text);
     let phase = state.phase;
-    say(job, phase);
+    say(job, phase, &mut text);
 }
 
 // Takes turns until the run stops. A proved loop has to end, and nothing says that the input does: turns are counted down

@@ -1,8 +1,9 @@
 -- What a run has written, by its phase.
-use mathlib.Core.Path.{_≡_, refl, sym, _∙_}
+use mathlib.Core.Path.{_≡_, refl, sym, ap, _∙_}
 use mathlib.Core.Bool.{Bool, true, false, cond}
 use mathlib.Core.List.{List, [], _∷_, _++_, append-nil}
-use Prim.Native.Nat.{ℕ}
+use Prim.Native.Nat.{ℕ, _≤_, _<_}
+use borrow.Author.Tests.{le-leb, lt-leb}
 use lib.Dec.{leb}
 use Rattle.session.specs.declared.Session.{Session}
 use Rattle.session.specs.Session.{opened}
@@ -14,7 +15,7 @@ use Rattle.stream.specs.declared.job.Job.the-variants.{Convert}
 use Rattle.stream.specs.declared.state.Phase.{Phase}
 use Rattle.stream.specs.declared.state.Phase.the-variants.{Reading, Ended, NotStarted, NotRead, NotWritten}
 use Rattle.stream.specs.Job.{blockOf, sessionOf, endingOf, resultOf}
-use Rattle.stream.specs.Run.{Standing, start, phaseAtStart, Read, came, ended, interrupted, failed, bytesIn, offered, afterRead, afterWrite, Turn, turned, goOn, standingOf, inputOf, writtenOf, Wrote, RunsWrite}
+use Rattle.stream.specs.Run.{Standing, start, phaseAtStart, Read, came, ended, interrupted, failed, bytesIn, offered, afterRead, afterWrite, Turn, turned, goOn, standingOf, inputOf, writtenOf, Wrote, RunsWrite, GoesOn, AllGoOn, RunsEnd}
 
 -- ---- what the job makes of bytes that come behind others
 
@@ -105,3 +106,44 @@ pub runs-write : RunsWrite
 runs-write job arguments turns =
     let s = standingOf job arguments turns in
     wrote-kept job (s .phase) s (inputOf job arguments turns) (writtenOf job arguments turns) (kept job arguments turns)
+
+-- ---- that runs end
+
+turned-on : (job : Job) (s : Standing) (turn : Turn) → s .phase ≡ Reading → GoesOn (turn .read) → turn .written ≡ true →
+    turned job s turn .phase ≡ Reading
+unfolding afterRead afterWrite
+turned-on job s turn e g w = rw w (read-on (turn .read) g)
+  where
+    read-on : (read : Read) → GoesOn read → afterWrite true (afterRead job s read) .phase ≡ Reading
+    read-on (came b) g = refl
+    read-on ended g = absurd g
+    read-on interrupted g = e
+    read-on failed g = absurd g
+
+taken : (phase : Phase) (before after : Standing) → phase ≡ Reading → goOn phase before after ≡ after
+taken phase before after e = rw e
+
+started : (arguments : ℕ) → arguments ≤ 1 → phaseAtStart arguments ≡ Reading
+started arguments h = rw (le-leb arguments 1 h)
+
+module _ (job : Job) (arguments : ℕ) where
+  goes-on : (turns : List Turn) → arguments ≤ 1 → AllGoOn turns → standingOf job arguments turns .phase ≡ Reading
+  unfolding standingOf
+  goes-on [] h g = started arguments h
+  goes-on (turn ∷ earlier) h g =
+      let s = standingOf job arguments earlier in
+      let e = goes-on earlier h (g .2) in
+      ap (λ (t : Standing). t .phase) (taken (s .phase) s (turned job s turn) e) ∙ turned-on job s turn e (g .0) (g .1)
+
+  ends : (turns : List Turn) → arguments ≤ 1 → AllGoOn turns →
+      standingOf job arguments (record { read = ended; written = true } ∷ turns) .phase ≡ Ended
+  unfolding standingOf afterRead afterWrite
+  ends turns h g = rw (goes-on turns h g)
+
+  never-starts : (turns : List Turn) → 1 < arguments → standingOf job arguments turns .phase ≡ NotStarted
+  unfolding standingOf
+  never-starts [] h = rw (lt-leb arguments 1 h)
+  never-starts (turn ∷ earlier) h = rw (never-starts earlier h)
+
+pub runs-end : (job : Job) → RunsEnd job
+runs-end job = record { goes-on = goes-on job; ends = ends job; never-starts = never-starts job }

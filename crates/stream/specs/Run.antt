@@ -2,7 +2,7 @@
 use mathlib.Core.Path.{_≡_}
 use mathlib.Core.Bool.{Bool, true, false, cond}
 use mathlib.Core.List.{List, [], _∷_, _++_}
-use Prim.Native.Nat.{ℕ, _+_}
+use Prim.Native.Nat.{ℕ, _≤_, _<_}
 use lib.Dec.{leb}
 use Rattle.session.specs.declared.Session.{Session}
 use Rattle.session.specs.Session.{opened}
@@ -94,7 +94,7 @@ module _ (job : Job) (arguments : ℕ) where
       let more = cond (turn .written) (offered job s (turn .read)) [] in
       goOn (s .phase) (writtenOf earlier) (writtenOf earlier ++ more)
 
--- a write failed: what was written before it is of the input before the last read, and has no end
+-- a write failed: what was written before it is of some first part of the input, and has no end
 pub record Cut (job : Job) (input written : List ℕ) : Type 0 where
   pub before : List ℕ
   pub last : List ℕ
@@ -115,3 +115,21 @@ abbrev pub RunsWrite : Type 0
 RunsWrite =
     (job : Job) (arguments : ℕ) (turns : List Turn) →
     Wrote job (standingOf job arguments turns .phase) (inputOf job arguments turns) (writtenOf job arguments turns)
+
+-- reads that bring bytes or are interrupted, and writes that write all
+abbrev pub GoesOn : Read → Type 0
+GoesOn (came b) = Unit {0}
+GoesOn ended = ⊥
+GoesOn interrupted = Unit {0}
+GoesOn failed = ⊥
+
+abbrev pub AllGoOn : List Turn → Type 0
+AllGoOn [] = Unit {0}
+AllGoOn (turn ∷ earlier) = GoesOn (turn .read) × (turn .written ≡ true) × AllGoOn earlier
+
+-- with these a run goes on, and the end of the input is its end; one with arguments does not start
+pub record RunsEnd (job : Job) : Type 0 where
+  pub goes-on : (arguments : ℕ) (turns : List Turn) → arguments ≤ 1 → AllGoOn turns → standingOf job arguments turns .phase ≡ Reading
+  pub ends : (arguments : ℕ) (turns : List Turn) → arguments ≤ 1 → AllGoOn turns →
+      standingOf job arguments (record { read = ended; written = true } ∷ turns) .phase ≡ Ended
+  pub never-starts : (arguments : ℕ) (turns : List Turn) → 1 < arguments → standingOf job arguments turns .phase ≡ NotStarted

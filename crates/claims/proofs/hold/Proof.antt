@@ -48,7 +48,7 @@ use Rattle.report.specs.Block.{recordAt, answerAt, sessionAt, linesOf, tailOf, 
 use Rattle.report.specs.Program.{endOf, printedFrom, printedOf}
 use Rattle.report.proofs.Blocks.{sessions-compose, lines-compose}
 use Rattle.report.proofs.Streams.{reads-do-not-matter, tail-refused, session-of-history}
-use Rattle.stream.proofs.Runs.{runs-write}
+use Rattle.stream.proofs.Runs.{runs-write, runs-end}
 use Rattle.claims.specs.Arithmetic.{Arithmetic}
 use Rattle.claims.specs.Demand1.{numbersOf, byForm, Demand1}
 use Rattle.claims.specs.Demand2.{Demand2, Parallel}
@@ -215,6 +215,7 @@ printing =
       lines = lines-compose;
       reads = reads-do-not-matter;
       runs = runs-write;
+      runs-end = runs-end;
       tail = tail-refused;
       counts = session-of-history;
       document = rw fed-answer;
