@@ -1,10 +1,10 @@
--- `filter::message::convert_message` meets its contract.
-use mathlib.Core.Path.{_≡_, refl}
+-- `messages::convert_message` meets its contract.
+use mathlib.Core.Path.{refl}
 use borrow.Author.Needs.{needs}
 use Rattle.lines.specs.Buffer.{putFront}
-use Rattle.filter.specs.Message.{messageOf}
-use Rattle.filter.proofs.message.convert_message.Statement.{statement}
-use Rattle.filter.proofs.message.convert_message.Tie as tie
+use Rattle.messages.specs.Message.{messageOf}
+use Rattle.messages.proofs.convert_message.Statement.{statement}
+use Rattle.messages.proofs.convert_message.Tie as tie
 
 returns : tie.Need-returns
 unfolding messageOf putFront
