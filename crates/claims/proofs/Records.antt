@@ -95,9 +95,9 @@ in-32 z h = fits w32 z (omega arith)
 -- ---- a moved record fed on
 
 module _ (h : RecordCall) (a : Answers h) where
-  fed-on : (bytes : List ℕ) (P : ℤ × ℤ → Type 0) (t : h .State) (output : ℕ) → length bytes ≡ size → (q : ℤ × ℤ) →
+  fed-again : (bytes : List ℕ) (P : ℤ × ℤ → Type 0) (t : h .State) (output : ℕ) → length bytes ≡ size → (q : ℤ × ℤ) →
       judgedOf bytes ≡ given q → P q → FedAgain h bytes P t output
-  fed-on bytes P t output l q e k = go (eqb output size) (h .isFull t) refl refl
+  fed-again bytes P t output l q e k = go (eqb output size) (h .isFull t) refl refl
     where
       both : (b : Bool) → eqb output size ≡ b → bothOfSize (length bytes) output ≡ b
       both b eb = rw (eq-eqb (length bytes) size l) eb
@@ -198,7 +198,7 @@ module _ (h : RecordCall) (a : Answers h) where
         let k = place-small (kindIn s) (centralIn s) (firstIn s) (secondIn s) (p .0) (p .1) n in
         let i = place-read (kindIn s) (in-32 (centralIn s) (omega arith)) (in-32 (p .0) (omega (arith, k .0))) (in-32 (p .1) (omega (arith, k .1))) in
         rw (← wrote t s out p e, f)
-        (fed-on (recordOf (kindIn s) place (centralIn s) (p .0) (p .1))
+        (fed-again (recordOf (kindIn s) place (centralIn s) (p .0) (p .1))
         (λ (q : ℤ × ℤ). SamePosition numbers (kindIn s) (centralIn s) (firstIn s) (secondIn s) (q .0) (q .1)) t' output' refl
         (r .longitude, r .latitude) (i ∙ r .accepted) (r .same))
 
@@ -214,7 +214,7 @@ module _ (h : RecordCall) (a : Answers h) where
         let k = position-small (kindIn s) (centralIn s) (firstIn s) (secondIn s) (p .0) (p .1) n in
         let i = position-read (kindIn s) (in-32 (centralIn s) (omega arith)) (in-32 (p .0) (omega (arith, k .0))) (in-32 (p .1) (omega (arith, k .1))) in
         rw (← wrote t s out p e, f)
-        (fed-on (recordOf (kindIn s) position (centralIn s) (p .0) (p .1))
+        (fed-again (recordOf (kindIn s) position (centralIn s) (p .0) (p .1))
         (λ (q : ℤ × ℤ). ClosePlace numbers (kindIn s) (centralIn s) (firstIn s) (secondIn s) (q .0) (q .1)) t' output' refl
         (r .x', r .y') (i ∙ r .accepted) (r .close))
 

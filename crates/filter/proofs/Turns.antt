@@ -21,8 +21,7 @@ use Rattle.stream.specs.declared.state.Got.{Got}
 use Rattle.stream.specs.declared.state.Got.the-variants.{Bytes, End, Interrupted, Failed}
 use Rattle.stream.specs.declared.step.Step.{Step}
 use Rattle.stream.specs.Run.{Standing, Turn, turned, goOn, afterRead, afterWrite}
-use Rattle.stream.specs.Step.{eintr, gotOf, gotByError, bytesOf, withRoom, readIn, standing, writeAfter, Holds, Follows}
-use Rattle.stream.specs.Inside.{FollowsIn}
+use Rattle.stream.specs.Step.{eintr, gotOf, gotByError, bytesOf, withRoom, readIn, standing, writeAfter, Holds, Follows, FollowsBy}
 use Rattle.stream.proofs.Steps.{write-stands, write-held, few-after}
 use Rattle.filter.specs.Turns.{records, most, Room, TurnsBy, leftIn}
 
@@ -71,7 +70,7 @@ module _ (job : Job) (state : State) (before after text : List ℕ) (answer erro
       let r : withRoom got (state .held) (length after) (length text) ≡ g =
       ap (λ (x : Got). withRoom x (state .held) (length after) (length text)) e
       ∙ with-room answer error (state .held) (length after) (length text) m few (room .bytes) (room .lines) in
-      let i : FollowsIn job state g after text step buffer′ text′ = rw r at f in
+      let i : FollowsBy job state (readIn g (drop (state .held) after)) after text step buffer′ text′ = rw r at f in
       record {
         behind = drop (state .held) after;
         stands = rw n
