@@ -1,10 +1,10 @@
 /*
  * Uldaseong: map projections in whole numbers, proved. Longitude and latitude become places on a world map and come back, for
- * ten atlas projections. Link target/staticlib/libuldaseong.a, which `rt staticlib uldaseong` builds for x86-64.
+ * twelve atlas projections. Link target/staticlib/libuldaseong.a, which `rt staticlib uldaseong` builds for x86-64.
  *
  * Every function answers every input. It returns 0 where it converted, and else the number of the refusal:
  *
- *    1  kind is not 1..10
+ *    1  kind is not 1..12
  *    2  a float is NaN or infinite
  *    3  central meridian outside 180 degrees either way
  *    4  longitude outside 180 degrees either way

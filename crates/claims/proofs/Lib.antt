@@ -1,5 +1,7 @@
 pub mod Roots
 pub mod Bound
+pub mod Sines
+pub mod Cosines
 pub mod Refusals
 pub mod Accepted
 pub mod Turning

@@ -8,7 +8,7 @@ use Rattle.whole.specs.Nearest.{nearest, carry}
 use Rattle.whole.specs.Signed.{plus}
 use Rattle.whole.proofs.Signs.{parts, sum, less}
 use Rattle.parallel.specs.Table.{rows, rowOf}
-use Rattle.parallel.specs.Parallel.{radicand, rootBy, rootAt, numerator, halfWidth, height}
+use Rattle.parallel.specs.Parallel.{radicand, qBy, qAt, oneBy, oneOf, numerator, halfWidth, height}
 use Rattle.parallel.specs.Latitude.{yOf, latitudeSize, latitudeAt, widthAt}
 use Rattle.parallel.specs.Refusal.{isKind, unless}
 use Rattle.parallel.specs.Answer.{widthOf}
@@ -39,7 +39,7 @@ differ h e = h (ap plus e)
 
 pub sharp : Sharp
 unfolding widthOf forwardOf inverseOf unless isKind placeOf xOf yOf positionOf latitudeAt latitudeSize widthAt differenceAt
-    height wrap rowOf rows halfWidth numerator rootAt radicand rootBy nearest carry
+    height wrap rowOf rows halfWidth numerator oneOf oneBy qAt radicand qBy nearest carry
 sharp =
     record {
       close = λ z. (rw (above z 2) (omega arith), rw (below z 2) (omega arith));

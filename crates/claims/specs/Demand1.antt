@@ -52,8 +52,8 @@ abbrev pub byForm : ℕ → List ℕ
 byForm form = cond (eqb form 0) (4 ∷ 5 ∷ []) (6 ∷ 7 ∷ [])
 
 pub record Demand1 : Type 0 where
-  -- a kind is one of 1..10
-  pub kinds : (kind : ℕ) → T (isKind kind) ↔ ((1 ≤ kind) × (kind ≤ 10))
+  -- a kind is one of 1..12
+  pub kinds : (kind : ℕ) → T (isKind kind) ↔ ((1 ≤ kind) × (kind ≤ 12))
   pub half-width : (kind : ℕ) (latitude : ℤ) →
       Ordered (widthOf kind latitude) (widthOrder kind latitude)
       (1 ∷ 5 ∷ []) (halfWidth (rowOf kind) (natAbs latitude))

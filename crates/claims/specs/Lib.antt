@@ -12,3 +12,5 @@ pub mod Printing
 pub mod Interface
 pub mod Arithmetic
 pub mod ExactRoot
+pub mod HouseSine
+pub mod CosineKinds

@@ -1,7 +1,9 @@
 // What the product claims, in one contract: the crate is proved only while each claim has its proof.
 ghost use Rattle.claims.specs.Arithmetic.{Arithmetic};
+ghost use Rattle.claims.specs.CosineKinds.{CosineKinds};
 ghost use Rattle.claims.specs.Demands.{Demands};
 ghost use Rattle.claims.specs.Examples.{Examples};
+ghost use Rattle.claims.specs.HouseSine.{HouseSine};
 ghost use Rattle.claims.specs.Interface.{Interface};
 ghost use Rattle.claims.specs.Printing.{Printing};
 ghost use Rattle.claims.specs.RecordExample.{RecordExample};
@@ -10,5 +12,5 @@ ghost use Rattle.claims.specs.Written.{Written};
 
 // Does nothing. Its `ensures` is the product of all claims.
 pub fn hold()
-    ensures { λ _. ⌜ Demands × Sharp × Examples × RecordExample × Arithmetic × Written × Printing × Interface ⌝ }
+    ensures { λ _. ⌜ Demands × Sharp × Examples × RecordExample × Arithmetic × HouseSine × CosineKinds × Written × Printing × Interface ⌝ }
 {}

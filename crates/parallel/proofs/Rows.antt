@@ -7,18 +7,23 @@ use native.Mathlib.Omega.{arith}
 use lib.Dec.{T, leb, leb→le}
 use lib.IntN.{ℤ, pos, natAbs}
 use lib.ListN.{length}
-use mir.Syntax.{w32}
+use mir.Syntax.{w8}
 use mir.Val.{toZ, ofZ}
+use Rattle.whole.specs.Nearest.{nearest, carry}
 use Rattle.whole.specs.Root.{root, rootIn}
 use Rattle.whole.specs.Signed.{plus, minus}
 use Rattle.whole.proofs.Signs.{back}
-use Rattle.angle.specs.Angle.{N, H, M}
+use Rattle.whole.proofs.Tests.{conj}
+use Rattle.angle.specs.Angle.{N, H}
+use Rattle.sine.specs.Series.{angle, next, alternating, series}
+use Rattle.sine.specs.Table.{entryOf, entriesFrom, table}
+use Rattle.sine.specs.Sine.{line, sineOf, cosineOf}
 use Rattle.parallel.specs.declared.table.Row.{Row}
 use Rattle.parallel.specs.Table.{rows, noRow, rowOf}
-use Rattle.parallel.specs.Parallel.{radicand, rootBy, rootAt, numerator}
+use Rattle.parallel.specs.Parallel.{radicand, qBy, qAt, oneBy, oneOf, numerator}
 use Rattle.parallel.specs.Refusal.{isKind}
-use Rattle.parallel.specs.Columns.{Columns, unusedSize, rootAtEquator, rootAtPole, mostNumerator}
-use Rattle.parallel.proofs.Every.{conj, Claim, lt, le, tests, Holds, holds, every, every-at}
+use Rattle.parallel.specs.Columns.{Columns, unusedSize, qAtEquator, qAtPole, mostNumerator}
+use Rattle.parallel.proofs.Every.{Claim, lt, le, tests, Holds, holds, every, every-at}
 
 -- the claim `NotBelow`
 abbrev below : ℤ → ℕ → ℤ → ℕ → Claim
@@ -33,12 +38,13 @@ claims r =
     ∷ lt (natAbs (r .a)) 16
     ∷ lt (natAbs (r .b)) 16
     ∷ lt (natAbs (r .e)) 16
-    ∷ lt (r .kx * natAbs (r .b)) M
+    ∷ lt (oneOf r) (2 ^ 32)
+    ∷ lt (r .kx * natAbs (r .b)) (oneOf r)
     ∷ below (pos 1) (N * N) (r .e) (H * H)
     ∷ lt (1024 * radicand r H) (2 ^ 64)
-    ∷ below (r .a) M (r .b) (rootAtEquator r)
-    ∷ below (r .a) M (r .b) (rootAtPole r)
-    ∷ lt (r .kx * mostNumerator r + M) (2 * M * (5 * N))
+    ∷ below (r .a) (oneOf r) (r .b) (qAtEquator r)
+    ∷ below (r .a) (oneOf r) (r .b) (qAtPole r)
+    ∷ lt (r .kx * mostNumerator r + oneOf r) (2 * oneOf r * (5 * N))
     ∷ []
 
 columns-of : (r : Row) → Holds (claims r) → Columns r
@@ -51,19 +57,20 @@ columns-of r h =
       a-small = h .1 .1 .1 .0;
       b-small = h .1 .1 .1 .1 .0;
       e-small = h .1 .1 .1 .1 .1 .0;
-      kx-fine = h .1 .1 .1 .1 .1 .1 .0;
-      radicand-whole = h .1 .1 .1 .1 .1 .1 .1 .0;
-      radicand-small = h .1 .1 .1 .1 .1 .1 .1 .1 .0;
-      equator-whole = h .1 .1 .1 .1 .1 .1 .1 .1 .1 .0;
-      pole-whole = h .1 .1 .1 .1 .1 .1 .1 .1 .1 .1 .0;
-      width-small = h .1 .1 .1 .1 .1 .1 .1 .1 .1 .1 .1 .0;
+      one-small = h .1 .1 .1 .1 .1 .1 .0;
+      kx-fine = h .1 .1 .1 .1 .1 .1 .1 .0;
+      radicand-whole = h .1 .1 .1 .1 .1 .1 .1 .1 .0;
+      radicand-small = h .1 .1 .1 .1 .1 .1 .1 .1 .1 .0;
+      equator-whole = h .1 .1 .1 .1 .1 .1 .1 .1 .1 .1 .0;
+      pole-whole = h .1 .1 .1 .1 .1 .1 .1 .1 .1 .1 .1 .0;
+      width-small = h .1 .1 .1 .1 .1 .1 .1 .1 .1 .1 .1 .1 .0;
     }
 
 passes : Row → Bool
 passes r = tests (claims r)
 
 all-pass : T (every passes rows)
-unfolding passes claims rows rootAtEquator rootAtPole mostNumerator numerator rootAt radicand rootBy root rootIn
+unfolding passes claims rows qAtEquator qAtPole mostNumerator numerator oneOf oneBy qAt radicand qBy root rootIn cosineOf sineOf line table entriesFrom entryOf series alternating next angle nearest carry
 all-pass = tt
 
 -- a kind counts from 1 to the number of rows
@@ -79,6 +86,6 @@ columns kind t =
     let k = kind-range kind t in
     columns-of (rowOf kind) (holds (claims (rowOf kind)) (every-at passes noRow rows all-pass (kind - 1) (omega arith)))
 
--- a signed column is read out of 32 bits as it stands in the table
-pub column : (z : ℤ) → natAbs z < 16 → toZ w32 (ofZ w32 z) ≡ z
-column z h = back w32 z (omega arith)
+-- a signed column is read out of 8 bits as it stands in the table
+pub column : (z : ℤ) → natAbs z < 16 → toZ w8 (ofZ w8 z) ≡ z
+column z h = back w8 z (omega arith)

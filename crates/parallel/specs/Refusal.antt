@@ -38,7 +38,7 @@ unless (r ∷ rs) a = cond (r .applies) (refused (r .number)) (unless rs a)
 unfoldable pub isKind : ℕ → Bool
 isKind kind = cond (leb 1 kind) (leb kind (length rows)) false
 
--- 1: kind is not 1..10
+-- 1: kind is not 1..12
 abbrev pub badKind : ℕ → Refusal
 badKind kind = record { number = 1; applies = not (isKind kind) }
 

@@ -1,11 +1,11 @@
--- The table of the projections ("the ten outlines" of document 01), a row for each kind.
+-- The table of the projections, a row for each kind: "the ten outlines" of document 01, the Sinusoidal and Eckert V.
 use mathlib.Core.List.{List, [], _∷_}
 use Prim.Native.Nat.{ℕ, _-_}
 use lib.IntN.{ℤ, pos, negℤ}
 use lib.ListN.{getD}
 use Rattle.parallel.specs.declared.table.Row.{Row}
 use Rattle.parallel.specs.declared.table.Method.{Method}
-use Rattle.parallel.specs.declared.table.Method.the-variants.{Unused, Root, Quotient}
+use Rattle.parallel.specs.declared.table.Method.the-variants.{Unused, Root, Quotient, Cosine}
 
 abbrev pub row : ℕ → ℕ → ℤ → ℤ → ℤ → Method → Row
 row kx ky a b e method = record { kx = kx; ky = ky; a = a; b = b; e = e; method = method }
@@ -27,6 +27,8 @@ rows =
     ∷ row 250662827 250662827 (pos 0) (pos 2) (neg 2) Quotient
     ∷ row 318387849 318387849 (pos 4) (neg 2) (pos 12) Root
     ∷ row 318387849 318387849 (pos 3) (neg 1) (pos 12) Root
+    ∷ row 314159265 314159265 (pos 0) (pos 2) (pos 0) Cosine
+    ∷ row 277096497 277096497 (pos 1) (pos 1) (pos 0) Cosine
     ∷ []
 
 -- what stands past the table's end

@@ -1,4 +1,4 @@
-// The table of the projections ("the ten outlines" of document 01), a row for each kind.
+// The table of the projections, a row for each kind: "the ten outlines" of document 01, the Sinusoidal and Eckert V.
 ghost use mathlib.Core.Path.{_≡_};
 ghost use lib.Dec.{T};
 ghost use Prim.Native.Nat.{_<_};
@@ -11,18 +11,19 @@ pub enum Method {
     Root,
     Quotient,
     Unused,
+    Cosine,
 }
 
 pub struct Row {
     pub kx: u32,
     pub ky: u32,
-    pub a: i32,
-    pub b: i32,
-    pub e: i32,
+    pub a: i8,
+    pub b: i8,
+    pub e: i8,
     pub method: Method,
 }
 
-const KINDS: usize = 10;
+const KINDS: usize = 12;
 
 const ROWS: [Row; KINDS] = [
     // 1: Plate Carrée
@@ -114,6 +115,24 @@ const ROWS: [Row; KINDS] = [
         b: -1,
         e: 12,
         method: Method::Root,
+    },
+    // 11: Sinusoidal
+    Row {
+        kx: 314159265,
+        ky: 314159265,
+        a: 0,
+        b: 2,
+        e: 0,
+        method: Method::Cosine,
+    },
+    // 12: Eckert V
+    Row {
+        kx: 277096497,
+        ky: 277096497,
+        a: 1,
+        b: 1,
+        e: 0,
+        method: Method::Cosine,
     },
 ];
 

@@ -8,9 +8,9 @@ use borrow.Author.Tests.{eq-eqb, ne-eqb}
 use lib.Dec.{T, eqb, eqb→eq}
 use lib.IntN.{ℤ}
 use lib.ListN.{getD}
+use Rattle.whole.proofs.Tests.{conj}
 use Rattle.angle.proofs.Judged.{not-false}
 use Rattle.parallel.specs.Refusal.{Outcome, refused, given, unless}
-use Rattle.parallel.proofs.Every.{conj}
 use Rattle.parallel.proofs.Orders.{Applies, Passes, OfNumbers}
 use Rattle.projection.specs.Answer.{forwardOrder, inverseOrder, forwardOf, inverseOf}
 use Rattle.record.specs.Record.{size, mark, position, place, hasMark, kindIn, formIn, centralIn, firstIn, secondIn, movedOf}

@@ -4,4 +4,5 @@ pub mod Scales
 pub mod Squares
 pub mod Newton
 pub mod Tests
+pub mod Everywhere
 pub mod Signs

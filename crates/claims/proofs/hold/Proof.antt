@@ -16,10 +16,10 @@ use Rattle.whole.specs.Root.{root, rootIn}
 use Rattle.whole.proofs.Rounding.{near, nearest-zero, half}
 use Rattle.whole.proofs.Squares.{root-is}
 use Rattle.whole.proofs.Signs.{natAbs-on, on-neg}
-use Rattle.angle.specs.Angle.{N, M}
+use Rattle.angle.specs.Angle.{N, H}
 use Rattle.parallel.specs.declared.table.Row.{Row}
 use Rattle.parallel.specs.Table.{rows, rowOf}
-use Rattle.parallel.specs.Parallel.{radicand, rootBy, rootAt, numerator, halfWidth, height}
+use Rattle.parallel.specs.Parallel.{radicand, qBy, qAt, oneBy, oneOf, numerator, halfWidth, height}
 use Rattle.parallel.specs.Columns.{combined, Usable}
 use Rattle.parallel.specs.Latitude.{yOf}
 use Rattle.parallel.specs.Refusal.{given, isKind, unless}
@@ -60,8 +60,10 @@ use Rattle.claims.specs.Examples.{Examples, examples}
 use Rattle.claims.specs.RecordExample.{RecordExample, input}
 use Rattle.claims.specs.Printing.{Printing}
 use Rattle.claims.specs.Written.{Written, DegreesBack}
-use Rattle.claims.proofs.Bound.{within-one}
+use Rattle.claims.proofs.Bound.{within-one, one-is-m}
 use Rattle.claims.proofs.Roots.{exact}
+use Rattle.claims.proofs.Sines.{house-sine}
+use Rattle.claims.proofs.Cosines.{cosine-kinds}
 use Rattle.claims.proofs.Refusals.{ordered}
 use Rattle.claims.proofs.Turning.{forward-x, forward-y}
 use Rattle.claims.proofs.Returning.{forward-back}
@@ -81,16 +83,15 @@ unfolding radicand numerator combined
 parallel r p u =
     record {
       s-whole = combined-whole (pos 1) (N * N) (r .e) (p * p) (radicand-whole r p u);
-      sum-whole = combined-whole (r .a) M (r .b) (rootAt r p) (numerator-whole r p u);
-      bound = within-one r p u;
+      sum-whole = combined-whole (r .a) (oneOf r) (r .b) (qAt r p) (numerator-whole r p u);
       width-small = width-small r p u;
       ky-low = u .columns .ky-low;
       ky-high = u .columns .ky-high;
     }
 
-kind-in : (kind : ℕ) → (1 ≤ kind) × (kind ≤ 10) → T (isKind kind)
+kind-in : (kind : ℕ) → (1 ≤ kind) × (kind ≤ 12) → T (isKind kind)
 unfolding isKind rows
-kind-in kind h = rw (le-leb 1 kind (h .0)) (le→leb kind 10 (h .1))
+kind-in kind h = rw (le-leb 1 kind (h .0)) (le→leb kind 12 (h .1))
 
 -- the numbers of a position's or a place's order, as a record's form says
 pair-numbers : (bytes : List ℕ) → numbersOf (pairOrder bytes) ≡ 1 ∷ 3 ∷ byForm (formIn bytes)
@@ -121,8 +122,15 @@ refusals =
       output-kept = λ input output n. refl;
     }
 
+usable : (kind p : ℕ) → T (isKind kind) → p ≤ H → Usable (rowOf kind) p
+usable kind p t h = record { columns = columns kind t; latitude = h }
+
 half-widths : Demand2
-half-widths kind p t h = parallel (rowOf kind) p (record { columns = columns kind t; latitude = h })
+half-widths =
+    record {
+      bound = λ kind p g h l. within-one (rowOf kind) p (usable kind p (kind-in kind (g, omega arith)) l) (one-is-m kind g h);
+      parallels = λ kind p t h. parallel (rowOf kind) p (usable kind p t h);
+    }
 
 laws-of-numbers : Demand3 numbers
 laws-of-numbers =
@@ -179,11 +187,11 @@ written =
     }
 
 worked : Examples
-unfolding examples forwardOf unless isKind placeOf xOf yOf height wrap rowOf rows halfWidth numerator rootAt radicand rootBy nearest carry root rootIn readOf
+unfolding examples forwardOf unless isKind placeOf xOf yOf height wrap rowOf rows halfWidth numerator oneOf oneBy qAt radicand qBy nearest carry root rootIn readOf
 worked = record { numbers = refl; values = refl }
 
 record-answer : convertOf input 16 ≡ given (pos 157079633, pos 78539816)
-unfolding convertOf unless pairOrder pairOf numberAt isKind placeOf xOf yOf height wrap rowOf rows halfWidth numerator rootAt radicand rootBy nearest carry
+unfolding convertOf unless pairOrder pairOf numberAt isKind placeOf xOf yOf height wrap rowOf rows halfWidth numerator oneOf oneBy qAt radicand qBy nearest carry
 record-answer = refl
 
 record-example : RecordExample
@@ -223,7 +231,7 @@ printing =
     }
 
 returns : tie.Need-returns
-returns c = (demands, sharp, worked, record-example, arithmetic, written, printing, interface)
+returns c = (demands, sharp, worked, record-example, arithmetic, house-sine, cosine-kinds, written, printing, interface)
 
 pub hold-spec : {M : Type 1} → statement M
 hold-spec = tie.close (tie.spec returns)

@@ -1,7 +1,7 @@
 -- `parallel::table::row_of` meets its contract: its fields, one by one, are those of the row in the table.
 use native.Mathlib.Omega.{arith}
 use borrow.Author.Needs.{needs}
-use mir.Syntax.{w32}
+use mir.Syntax.{w8}
 use mir.Val.{SFits}
 use mir.Facts.{toZ-ofZ}
 use Rattle.parallel.specs.Table.{rowOf}
@@ -19,9 +19,9 @@ returns : tie.Need-returns
 unfolding rowOf
 returns c =
     let row = c .before .row-at .result in
-    let fa : SFits w32 (row .a) = search needs in
-    let fb : SFits w32 (row .b) = search needs in
-    let fe : SFits w32 (row .e) = search needs in
+    let fa : SFits w8 (row .a) = search needs in
+    let fb : SFits w8 (row .b) = search needs in
+    let fe : SFits w8 (row .e) = search needs in
     rw (toZ-ofZ fa, toZ-ofZ fb, toZ-ofZ fe) (c .before .row-at .ensures)
 
 pub row-of-spec : {M : Type 1} → statement M

@@ -1,0 +1,5 @@
+pub mod Terms
+pub mod Entries
+pub mod Lines
+pub mod Sines
+pub mod Worked

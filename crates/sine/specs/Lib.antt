@@ -1,0 +1,3 @@
+pub mod Series
+pub mod Table
+pub mod Sine
