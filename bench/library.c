@@ -1,5 +1,6 @@
-/* `library KIND NAME` prints four ratios, PROJ's time to ours, for the kind that PROJ calls NAME: forward, inverse,
- * forward_degrees, inverse_degrees. The two sides take turns on the same points, and the best turn of each counts. */
+/* `library KIND NAME BOUND` prints four ratios, PROJ's time to ours, for the kind that PROJ calls NAME: forward, inverse,
+ * forward_degrees, inverse_degrees. The two sides take turns on the same points, and the best turn of each counts. Their
+ * places may be BOUND map units apart. */
 #define _POSIX_C_SOURCE 199309L
 #include <math.h>
 #include <stdio.h>
@@ -65,21 +66,21 @@ static void turn(struct task *task, PJ *projection) {
     task->their_best = fmin(task->their_best, end - middle);
 }
 
-/* Both sides must do the same work: after a turn of forward_degrees every place is PROJ's within 2 units. */
-static void check_places(void) {
+/* Both sides must do the same work: after a turn of forward_degrees every place is PROJ's within the bound. */
+static void check_places(double bound) {
     for (size_t i = 0; i < POINTS; i++) {
         for (size_t j = 0; j < 2; j++) {
-            expect(fabs(float_pairs[i][j] - proj_pairs[i][j]) <= 2, "a place is not PROJ's");
+            expect(fabs(float_pairs[i][j] - proj_pairs[i][j]) <= bound, "a place is not PROJ's");
         }
     }
 }
 
 int main(int count, char **words) {
-    expect(count == 3, "usage: library KIND NAME");
+    expect(count == 4, "usage: library KIND NAME BOUND");
     fill(&points, kind_of(words[1]));
     PJ *projection = theirs_open(words[2]);
     turn(&tasks[2], projection);
-    check_places();
+    check_places(atof(words[3]));
     /* every task in every round, so that a slow while of the machine spoils no task's best */
     for (int round = 0; round < TURNS; round++) {
         for (size_t i = 0; i < TASKS; i++) turn(&tasks[i], projection);

@@ -26,7 +26,7 @@ void place_of(uint8_t kind, const pair position, pair place) {
 
 uint8_t kind_of(const char *text) {
     int kind = atoi(text);
-    if (kind < 1 || kind > 10) {
+    if (kind < 1 || kind > 12) {
         fprintf(stderr, "bench: %s is no kind\n", text);
         exit(2);
     }

@@ -50,15 +50,21 @@ static void hold_status(uint8_t status, int allowed) {
     hold(status <= 11 && (allowed >> status & 1) != 0, "a status that the call does not have");
 }
 
+/* Refusal 1 comes before all others of a call on numbers or floats. */
+static void hold_kind(uint8_t status, uint8_t kind) {
+    hold((status == 1) == (kind < 1 || kind > KINDS), "a kind of the table refused by 1, or another one not");
+}
+
 static void call_numbers(uint8_t *guard) {
     int32_t *pair = lend(guard, 8);
     int32_t before[2] = {(int32_t)random_number(), (int32_t)random_number()};
-    uint8_t kind = (uint8_t)random_below(12);
+    uint8_t kind = (uint8_t)random_below(KINDS + 2);
     int32_t central = (int32_t)random_below(140000000) - 70000000;
     memcpy(pair, before, 8);
     uint8_t status = uldaseong_forward(kind, central, (int32_t)random_below(140000000) - 70000000,
                                        (int32_t)random_below(70000000) - 35000000, pair);
     hold_status(status, NUMBERS);
+    hold_kind(status, kind);
     if (status != 0) {
         hold(memcmp(pair, before, 8) == 0, "forward refused and changed the pair");
         return;
@@ -70,7 +76,7 @@ static void call_floats(uint8_t *guard) {
     double *pair = lend(guard, 16);
     double before[2] = {random_below(1000), random_below(1000)};
     double given[3];
-    uint8_t kind = (uint8_t)random_below(12);
+    uint8_t kind = (uint8_t)random_below(KINDS + 2);
     for (int i = 0; i < 3; i++) {
         uint64_t bits = random_number();
         if (random_below(4) == 0)
@@ -81,6 +87,7 @@ static void call_floats(uint8_t *guard) {
     memcpy(pair, before, 16);
     uint8_t status = uldaseong_forward_degrees(kind, given[0], given[1], given[2] / 2, pair);
     hold_status(status, FLOATS);
+    hold_kind(status, kind);
     if (status != 0) {
         hold(memcmp(pair, before, 16) == 0, "forward on floats refused and changed the pair");
         return;

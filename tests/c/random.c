@@ -29,7 +29,7 @@ static void random_record(uint8_t record[ULDASEONG_RECORD]) {
     int place = (int)random_below(2);
     record[0] = 0x4D;
     record[1] = 0xD2;
-    record[2] = (uint8_t)(1 + random_below(10));
+    record[2] = (uint8_t)(1 + random_below(KINDS));
     record[3] = (uint8_t)place;
     put(record + 4, random_below(2) ? 0 : near_limit(64800000));
     put(record + 8, near_limit(place ? 160000000 : 64800000));

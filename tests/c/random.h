@@ -5,6 +5,9 @@
 #include <stddef.h>
 #include <stdint.h>
 
+/* Kinds are numbered from 1 to this one. */
+enum { KINDS = 12 };
+
 /* The next number of the generator (splitmix64). */
 uint64_t random_number(void);
 

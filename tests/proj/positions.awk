@@ -17,12 +17,15 @@ function position(longitude, latitude) {
     printf "%d %d %d\n", central, longitude, latitude
 }
 
-# All latitudes of the grid on one meridian: every 7.5 degrees, and one unit beside the Equator and the poles.
+# All latitudes of the grid on one meridian: every 7.5 degrees, one unit beside the Equator and the poles, and half an arcminute
+# from the Equator, where the straight line of the house sine is farthest below the sine.
 function meridian(longitude,    latitude) {
     for (latitude = -H; latitude <= H; latitude += H / 12) position(longitude, latitude)
     position(longitude, 1 - H)
     position(longitude, -1)
     position(longitude, 1)
+    position(longitude, -3000)
+    position(longitude, 3000)
     position(longitude, H - 1)
 }
 

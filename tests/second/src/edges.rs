@@ -2,7 +2,7 @@
 use crate::map::{row_latitude, row_width, row_y, HALF_TURN, RIGHT_ANGLE};
 use crate::request::Request;
 use crate::requests::{place, position, width, DEGREE};
-use crate::table::{row_of, Row};
+use crate::table::{row_of, Row, KINDS};
 
 pub const LEAST: i128 = i32::MIN as i128;
 pub const GREATEST: i128 = i32::MAX as i128;
@@ -21,7 +21,19 @@ const FAR: [i128; 10] = [
     -(1 << 80),
 ];
 
-const ODD_KINDS: [i128; 11] = [0, 11, 127, 128, 255, 256, 257, 266, -1, -256, 4294967297];
+const ODD_KINDS: [i128; 11] = [
+    0,
+    KINDS + 1,
+    127,
+    128,
+    255,
+    256,
+    257,
+    256 + KINDS,
+    -1,
+    -256,
+    4294967297,
+];
 
 /// 89.99 degrees.
 const NEAR_THE_POLE: i128 = RIGHT_ANGLE - DEGREE / 100;
@@ -43,12 +55,12 @@ pub fn latitudes() -> Vec<i128> {
 
 pub fn widths() -> Vec<Request> {
     let mut requests = Vec::new();
-    for kind in 0..=11 {
+    for kind in 0..=KINDS + 1 {
         for degrees in -91..=91 {
             requests.push(width(kind, degrees * DEGREE));
         }
     }
-    for kind in [1, 2, 9, 10].iter().chain(&ODD_KINDS) {
+    for kind in [1, 2, 9, 10, 11, 12].iter().chain(&ODD_KINDS) {
         for latitude in latitudes().iter().chain(&FAR) {
             requests.push(width(*kind, *latitude));
         }
@@ -69,7 +81,7 @@ pub fn longitudes(central: i128) -> Vec<i128> {
 pub fn positions() -> Vec<Request> {
     let mut requests = Vec::new();
     let mut latitude = latitudes().into_iter().cycle();
-    for kind in 1..=10 {
+    for kind in 1..=KINDS {
         for central in CENTRALS {
             for longitude in longitudes(central) {
                 requests.extend(position(kind, central, longitude, 60 * DEGREE).handed_on());
@@ -102,7 +114,7 @@ pub fn breadths(row: &Row, y: i128) -> Vec<i128> {
 pub fn places() -> Vec<Request> {
     let mut requests = Vec::new();
     let mut centrals = CENTRALS.into_iter().cycle();
-    for kind in 1..=10 {
+    for kind in 1..=KINDS {
         let row = row_of(kind).expect("a kind of the table");
         for y in heights(&row) {
             for x in breadths(&row, y) {
@@ -117,7 +129,7 @@ pub fn places() -> Vec<Request> {
 /// Good and bad numbers in every mixture, which shows the order of the refusals.
 fn mixtures() -> Vec<Request> {
     let mut requests = Vec::new();
-    for kind in [1, 9, 0, 11] {
+    for kind in [1, 9, KINDS, 0, KINDS + 1] {
         for central in [0, -HALF_TURN - 1, LEAST] {
             for longitude in [0, HALF_TURN + 1, GREATEST] {
                 for latitude in [0, -RIGHT_ANGLE - 1, LEAST] {
@@ -137,7 +149,7 @@ fn mixtures() -> Vec<Request> {
 pub fn refusals() -> Vec<Request> {
     let mut requests = mixtures();
     for far in FAR.iter().chain(&[HALF_TURN + 1, -HALF_TURN - 1]) {
-        for kind in [1, 9] {
+        for kind in [1, 9, 11] {
             for [central, first, second] in [[*far, 0, 0], [0, *far, 0], [0, 0, *far]] {
                 requests.push(position(kind, central, first, second));
                 requests.push(place(kind, central, first, second));

@@ -1,6 +1,7 @@
 //! Document 01's f64 door: a call on floats is judged on their own values, and answered as the whole numbers that are read
 //! from them. Whole numbers are read from the bits, and no product is worked out in f64.
-use crate::map::{self, nearest, Answer};
+use crate::map::{self, Answer};
+use crate::rounding::nearest;
 use crate::table::row_of;
 
 /// Hundredths of an arcsecond in a degree.

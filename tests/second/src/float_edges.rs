@@ -1,9 +1,10 @@
 //! Requests on floats at the edges: the ends of the format, the limits of each float and halves, with what lies on either
 //! side of them.
+use crate::arcminutes;
 use crate::float_requests::{place, position};
 use crate::map::{inverse, row_latitude, row_width, row_y, Answer, HALF_TURN, RIGHT_ANGLE};
 use crate::request::Request;
-use crate::table::{row_of, Row};
+use crate::table::{by_turns, row_of, Row, KINDS};
 
 /// NaNs, quiet and signalling, as bits: a float may lose them where it is worked with.
 const NANS: [u64; 4] = [
@@ -39,7 +40,7 @@ pub fn sizes() -> Vec<f64> {
 /// Every size in each place of a request, the kinds by turns.
 pub fn anywhere() -> Vec<Request> {
     let sizes = signed(&sizes()).into_iter();
-    let with_kinds = (1..=10).cycle().zip(sizes);
+    let with_kinds = by_turns().zip(sizes);
     with_kinds
         .flat_map(|(kind, x)| in_each_place(kind, x))
         .collect()
@@ -64,7 +65,7 @@ pub fn mixtures() -> Vec<Request> {
     let firsts = [-0.5, -180.0_f64.next_up(), 5e8, INFINITE, -nan];
     let seconds = [0.25, 90.0_f64.next_up(), -2e8, nan, INFINITE];
     let mut requests = Vec::new();
-    for kind in [1, 9, 0, 11] {
+    for kind in [1, 9, 0, KINDS + 1] {
         for central in centrals {
             for (first, second) in pairs(&firsts, &seconds) {
                 requests.push(position(kind, central, first, second));
@@ -88,7 +89,7 @@ pub fn positions() -> Vec<Request> {
         .into_iter()
         .cycle();
     let mut requests = Vec::new();
-    for kind in 1..=10 {
+    for kind in 1..=KINDS {
         for (central, edge) in pairs(&centrals, &edges) {
             let latitude = latitudes.next().expect("an endless list");
             requests.extend(position(kind, central, edge, latitude).handed_on());
@@ -96,6 +97,17 @@ pub fn positions() -> Vec<Request> {
         }
     }
     requests
+}
+
+/// Both edges of the kinds that have a cosine, at some degrees of latitude, there and back.
+pub fn cosines() -> Vec<Request> {
+    let latitudes = signed(&arcminutes::DEGREES.map(|degrees| degrees as f64));
+    let edges = pairs(&[180.0, -180.0], &latitudes).into_iter();
+    let of_kinds = |(longitude, latitude)| {
+        let edge = move |kind| position(kind, 0.0, longitude, latitude).handed_on();
+        arcminutes::WITH_COSINE.map(edge).into_iter()
+    };
+    edges.flat_map(of_kinds).flatten().collect()
 }
 
 /// Odd numbers whose halves of a centisecond are small, near 90 degrees, near 180 degrees or between.
@@ -107,7 +119,7 @@ pub const SOME_ODD: [u16; 16] = [
 pub fn angle_halves(odd: &[u16]) -> Vec<Request> {
     let sizes = odd.iter().flat_map(|n| about(f64::from(*n) / 128.0));
     let halves = signed(&sizes.collect::<Vec<_>>());
-    let mut kinds = (1..=10).cycle();
+    let mut kinds = by_turns();
     let mut requests = Vec::new();
     for half in halves {
         let kind = kinds.next().expect("an endless list");
@@ -128,7 +140,7 @@ fn about_half(n: i128) -> Vec<f64> {
 /// Places about the edge of the row at some latitudes, the pole among them, there and back.
 pub fn places() -> Vec<Request> {
     let mut requests = Vec::new();
-    for kind in 1..=10 {
+    for kind in 1..=KINDS {
         let row = row_of(kind).expect("a kind of the table");
         for latitude in [0, HALF_TURN / 3, RIGHT_ANGLE] {
             for (x, y) in edge_of_row(&row, latitude) {
@@ -149,7 +161,7 @@ fn edge_of_row(row: &Row, latitude: i128) -> Vec<(f64, f64)> {
 /// Halves of a map unit, with the floats next to each, where the numbers on either side of the half have different answers.
 pub fn place_halves() -> Vec<Request> {
     let mut requests = Vec::new();
-    for kind in 1..=10 {
+    for kind in 1..=KINDS {
         for start in [0, 1, 1_000_003, 40_000_000] {
             let x = telling(start, |x| inverse(kind, 0, x, 70_000_000));
             for half in signed(&about(x as f64 + 0.5)) {

@@ -3,12 +3,12 @@ use crate::float_requests::{place, position};
 use crate::map::{row_latitude, row_width, row_y, RIGHT_ANGLE};
 use crate::request::Request;
 use crate::requests::next;
-use crate::table::row_of;
+use crate::table::{row_of, KINDS};
 
 /// Some requests of each sort for each round, the kinds by turns.
 pub fn requests(seed: u64, rounds: u64) -> impl Iterator<Item = Request> {
     let mut chance = Chance(seed);
-    (0..rounds).flat_map(move |i| chance.round(1 + i128::from(i % 10)))
+    (0..rounds).flat_map(move |i| chance.round(1 + i128::from(i) % KINDS))
 }
 
 /// The state of a generator.

@@ -8,6 +8,7 @@ pub fn all() -> Vec<String> {
     let mut requests = float_edges::anywhere();
     requests.extend(float_edges::mixtures());
     requests.extend(float_edges::positions());
+    requests.extend(float_edges::cosines());
     requests.extend(float_edges::angle_halves(&float_edges::SOME_ODD));
     requests.extend(float_edges::places());
     requests.extend(float_edges::place_halves());

@@ -1,5 +1,6 @@
-//! Document 01's rules once more, with no code of the product, and inputs for both: at every edge, and at random from a
-//! seed.
+//! Document 01's rules and document 02's order 5 once more, with no code of the product, and inputs for both: at every edge,
+//! and at random from a seed.
+pub mod arcminutes;
 pub mod edges;
 pub mod float;
 pub mod float_edges;
@@ -11,12 +12,16 @@ pub mod record_cases;
 pub mod record_random;
 pub mod request;
 pub mod requests;
+pub mod rounding;
 pub mod session;
+pub mod sine;
 pub mod stations;
 pub mod table;
+pub mod wide;
 
-/// Stops where the second program has something else than document 01's table and its record.
+/// Stops where the second program has something else than document 01's table and its record, or another sine.
 pub fn check() {
+    sine::check();
     table::check();
     record::check();
 }

@@ -1,6 +1,6 @@
-//! The second program: document 01's rules once more, with no code of the product. `second requests` writes requests for
-//! the program `query`, and `second answers` reads such requests and writes what is to be answered. `second random SEED
-//! ROUNDS` writes more requests on floats than the stored ones.
+//! The second program: document 01's rules and document 02's order 5 once more, with no code of the product. `second
+//! requests` writes requests for the program `query`, and `second answers` reads such requests and writes what is to be
+//! answered. `second random SEED ROUNDS` writes more requests on floats than the stored ones.
 //!
 //! `second convert` does what the program `convert` does. `second records` writes its stored input, `second refusals` and
 //! `second stations` those of two small runs, the latter from lines of text, and `second random-records SEED COUNT` more

@@ -1,5 +1,7 @@
-//! Document 01's rules in 128-bit arithmetic.
-use crate::table::{row_of, Row};
+//! Document 01's rules in 128-bit arithmetic, and the half-widths of document 02's order 5.
+use crate::rounding::{floor_root, nearest};
+use crate::sine::{cosine, ONE};
+use crate::table::{row_of, Outline, Row};
 
 pub const HALF_TURN: i128 = 180 * 60 * 60 * 100;
 pub const RIGHT_ANGLE: i128 = 90 * 60 * 60 * 100;
@@ -12,37 +14,17 @@ pub enum Answer {
     Refused(u8),
 }
 
-/// The whole number nearest to n / d, halves away from zero. Every rounding of the second program is this one.
-pub fn nearest(n: i128, d: i128) -> i128 {
-    let up = (2 * n.abs() + d) / (2 * d);
-    if n < 0 {
-        -up
-    } else {
-        up
-    }
-}
-
-/// The floor of the square root, from the float's guess.
-fn floor_root(n: i128) -> i128 {
-    let mut r = (n as f64).sqrt() as i128;
-    while r * r > n {
-        r -= 1;
-    }
-    while (r + 1) * (r + 1) <= n {
-        r += 1;
-    }
-    r
-}
-
+/// The half-width at a latitude of size p.
 pub fn row_width(row: &Row, p: i128) -> i128 {
     let m = 32 * HALF_TURN;
-    let s = HALF_TURN * HALF_TURN + row.e * p * p;
-    let q = if row.quotient {
-        32 * s / HALF_TURN
-    } else {
-        floor_root(1024 * s)
-    };
-    nearest(row.kx * (row.a * m + row.b * q), 2 * m)
+    let s = |e| HALF_TURN * HALF_TURN + e * p * p;
+    let by_q = |a, b, q| nearest(row.kx * (a * m + b * q), 2 * m);
+    match row.outline {
+        Outline::Root(a, b, e) => by_q(a, b, floor_root(1024 * s(e))),
+        Outline::Quotient(a, b, e) => by_q(a, b, 32 * s(e) / HALF_TURN),
+        Outline::Cosine => nearest(row.kx * cosine(p), ONE),
+        Outline::CosineMean => nearest(row.kx * (ONE + cosine(p)), 2 * ONE),
+    }
 }
 
 /// y of a latitude.

@@ -1,11 +1,12 @@
 //! Records at the edges: each byte of mark, kind and form, the limits of each number, and refusals beside each other.
+use crate::arcminutes;
 use crate::edges::{breadths, heights, latitudes, longitudes, signed, GREATEST, LEAST};
 use crate::map::{HALF_TURN, RIGHT_ANGLE};
 use crate::record::{record, Record, DOCUMENT, MARK, PLACE, POSITION};
 use crate::record_random::Chance;
 use crate::request::Request;
 use crate::requests::{self, DEGREE};
-use crate::table::row_of;
+use crate::table::{by_turns, row_of, KINDS};
 
 /// The stored input, with a torn record at its end.
 pub fn all() -> Vec<u8> {
@@ -16,6 +17,7 @@ pub fn all() -> Vec<u8> {
     records.extend(far_numbers());
     records.extend(positions());
     records.extend(places());
+    records.extend(arcminutes::degrees().filter_map(|request| asking(&request)));
     records.extend(neighbours());
     let mut chance = Chance::new(20_260_103);
     records.extend((0..2000).map(|_| chance.record()));
@@ -39,18 +41,27 @@ fn handed_on(first: Record) -> Vec<Record> {
 fn document() -> Vec<Record> {
     let mut records = handed_on(Record::read(&DOCUMENT));
     for line in requests::DOCUMENT {
-        let first = match Request::read(line) {
-            Some(Request::Position(kind, numbers)) => record(POSITION, kind, numbers),
-            Some(Request::Place(kind, numbers)) => record(PLACE, kind, numbers),
-            _ => panic!("a request for a record: {line}"),
-        };
+        let first = Request::read(line).as_ref().and_then(asking);
+        let first = first.unwrap_or_else(|| panic!("a request for a record: {line}"));
         records.extend(handed_on(first));
     }
     records
 }
 
+/// The record that asks what a request on whole numbers asks, if it has a position or a place.
+fn asking(request: &Request) -> Option<Record> {
+    match *request {
+        Request::Position(kind, numbers) => Some(record(POSITION, kind, numbers)),
+        Request::Place(kind, numbers) => Some(record(PLACE, kind, numbers)),
+        _ => None,
+    }
+}
+
 /// How many things can be wrong with a record: mark, form, kind, central meridian and the two numbers of its form.
 const FAULTS: usize = 6;
+
+/// The first kind that is none.
+const NO_KIND: u8 = KINDS as u8 + 1;
 
 /// A record with the faults that the binary digits of `which` name, the first in the order of judging by the lowest.
 pub fn faulty(form: u8, kind: i128, which: usize) -> Record {
@@ -69,7 +80,7 @@ pub fn faulty(form: u8, kind: i128, which: usize) -> Record {
     Record {
         mark: if has(0) { [MARK[1], MARK[0]] } else { MARK },
         form: if has(1) { form + 2 } else { form },
-        kind: if has(2) { 11 } else { good.kind },
+        kind: if has(2) { NO_KIND } else { good.kind },
         ..good
     }
 }
@@ -90,7 +101,7 @@ pub fn refusals() -> Vec<Record> {
 
 /// Every mixture of faults for each kind by turns.
 fn mixtures() -> Vec<Record> {
-    let mut kinds = (1..=10).cycle();
+    let mut kinds = by_turns();
     let mut records = Vec::new();
     for form in [POSITION, PLACE] {
         for which in 0..1 << FAULTS {
@@ -125,7 +136,7 @@ pub fn every_byte(good: &Record, at: usize) -> Vec<Record> {
 fn far_numbers() -> Vec<Record> {
     let past = [LEAST, LEAST + 1, GREATEST, HALF_TURN + 1, -HALF_TURN - 1];
     let mut records = Vec::new();
-    for kind in 1..=10 {
+    for kind in 1..=KINDS {
         for form in [POSITION, PLACE] {
             for far in past {
                 for numbers in [[far, 1, 2], [3, far, 4], [5, 6, far], [far; 3]] {
@@ -146,7 +157,7 @@ fn centrals() -> Vec<i128> {
 fn positions() -> Vec<Record> {
     let mut records = Vec::new();
     let mut latitude = latitudes().into_iter().cycle();
-    for kind in 1..=10 {
+    for kind in 1..=KINDS {
         for central in centrals() {
             for longitude in longitudes(central) {
                 let latitude = latitude.next().expect("an endless list");
@@ -170,7 +181,7 @@ fn positions() -> Vec<Record> {
 fn places() -> Vec<Record> {
     let mut records = Vec::new();
     let mut centrals = centrals().into_iter().cycle();
-    for kind in 1..=10 {
+    for kind in 1..=KINDS {
         let row = row_of(kind).expect("a kind of the table");
         for y in heights(&row) {
             for x in breadths(&row, y) {
@@ -182,12 +193,13 @@ fn places() -> Vec<Record> {
     records
 }
 
-/// Neighbouring meridians of kind 2, each handed on: apart at 72 degrees, some of them in one place at 89.
+/// Neighbouring meridians of kinds 2 and 11, each handed on: apart at 72 degrees, some of them in one place at 89.
 fn neighbours() -> Vec<Record> {
     let mut records = Vec::new();
-    for latitude in [72 * DEGREE, 89 * DEGREE] {
+    for (kind, degrees) in [(2, 72), (2, 89), (11, 72), (11, 89)] {
         for longitude in HALF_TURN - 20..=HALF_TURN {
-            records.extend(handed_on(record(POSITION, 2, [0, longitude, latitude])));
+            let numbers = [0, longitude, degrees * DEGREE];
+            records.extend(handed_on(record(POSITION, kind, numbers)));
         }
     }
     records

@@ -2,7 +2,7 @@
 use crate::map::{row_latitude, row_width, row_y, HALF_TURN, RIGHT_ANGLE};
 use crate::record::{record, Record, LENGTH, PLACE, POSITION};
 use crate::requests::{next, seeded, within};
-use crate::table::{row_of, Row};
+use crate::table::{row_of, Row, KINDS};
 use std::io::{self, BufWriter, Write};
 
 /// Some records, and a torn one whose length is the seed's remainder by 16.
@@ -31,7 +31,7 @@ impl Chance {
     }
 
     pub fn record(&mut self) -> Record {
-        let kind = 1 + i128::from(self.below(10));
+        let kind = 1 + i128::from(self.below(KINDS as u64));
         let drawn = match self.below(16) {
             0..=4 => self.position(kind),
             5..=7 => self.place(kind),

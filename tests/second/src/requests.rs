@@ -1,10 +1,11 @@
 //! Requests over every kind and every edge that document 01 names, and some thousand at random from a fixed seed.
+use crate::arcminutes;
 use crate::edges;
 use crate::float_requests;
 use crate::map::{row_latitude, row_width, row_y};
 use crate::map::{HALF_TURN, RIGHT_ANGLE};
 use crate::request::Request;
-use crate::table::row_of;
+use crate::table::{row_of, KINDS};
 
 pub const DEGREE: i128 = 60 * 60 * 100;
 
@@ -13,6 +14,7 @@ pub fn all() -> String {
     requests.extend(edges::positions());
     requests.extend(edges::places());
     requests.extend(edges::refusals());
+    requests.extend(arcminutes::some());
     requests.extend(neighbours());
     requests.extend(random());
     let mut lines = texts(requests);
@@ -42,13 +44,13 @@ pub fn place(kind: i128, central: i128, x: i128, y: i128) -> Request {
     Request::Place(kind, [central, x, y])
 }
 
-/// Neighbouring meridians of kind 2: apart at 72 degrees, some of them in one place at 89.
+/// Neighbouring meridians of kinds 2 and 11: apart at 72 degrees, some of them in one place at 89.
 fn neighbours() -> Vec<Request> {
     let mut requests = Vec::new();
-    for latitude in [72 * DEGREE, 89 * DEGREE] {
+    for (kind, degrees) in [(2, 72), (2, 89), (11, 72), (11, 89)] {
         for first in [-20, 45 * DEGREE, HALF_TURN - 40] {
             for longitude in first..=first + 40 {
-                requests.extend(position(2, 0, longitude, latitude).handed_on());
+                requests.extend(position(kind, 0, longitude, degrees * DEGREE).handed_on());
             }
         }
     }
@@ -59,21 +61,21 @@ fn random() -> Vec<Request> {
     let mut requests = Vec::new();
     let mut state = 20_260_101;
     for i in 0..2000 {
-        requests.push(width(1 + i % 10, within(&mut state, RIGHT_ANGLE)));
+        requests.push(width(1 + i % KINDS, within(&mut state, RIGHT_ANGLE)));
     }
     for i in 0..1500 {
-        let kind = 1 + i % 10;
+        let kind = 1 + i % KINDS;
         let central = within(&mut state, HALF_TURN);
         let longitude = within(&mut state, HALF_TURN);
         let latitude = within(&mut state, RIGHT_ANGLE);
         requests.extend(position(kind, central, longitude, latitude).handed_on());
     }
     for i in 0..1500 {
-        let kind = 1 + i % 10;
+        let kind = 1 + i % KINDS;
         let row = row_of(kind).expect("a kind of the table");
         let central = within(&mut state, HALF_TURN);
         let y = within(&mut state, row_y(&row, RIGHT_ANGLE));
-        let w = row_width(&row, row_latitude(&row, y));
+        let w = row_width(&row, row_latitude(&row, y).abs());
         requests.extend(place(kind, central, within(&mut state, w), y).handed_on());
         // most of these are inside, some are only inside the Equator's width
         let x = within(&mut state, row_width(&row, 0));

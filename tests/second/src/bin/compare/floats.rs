@@ -10,7 +10,7 @@ use second::float_requests::{place, position};
 use second::map::{row_latitude, row_width, row_y, RIGHT_ANGLE};
 use second::request::Request;
 use second::requests::{seeded, DEGREE};
-use second::table::row_of;
+use second::table::{row_of, KINDS};
 
 /// How many rounds are drawn for a part: ten requests of the second program's sorts each, and four of this file's.
 const ROUNDS: u64 = 350_000;
@@ -68,7 +68,7 @@ fn mixtures() -> impl Iterator<Item = Request> {
     let count = sizes.len();
     let three = move |n: usize| [n / count / count, n / count % count, n % count].map(|i| sizes[i]);
     let all = (0..count.pow(3)).map(three);
-    let with_kinds = (0..=10).cycle().zip(all);
+    let with_kinds = (0..=KINDS).cycle().zip(all);
     with_kinds.flat_map(|(kind, [central, first, second])| {
         let position = position(kind, central, first, second);
         [position, place(kind, central, first, second)]
@@ -77,7 +77,7 @@ fn mixtures() -> impl Iterator<Item = Request> {
 
 fn drawn(seed: u64, rounds: u64) -> impl Iterator<Item = Request> {
     let mut chance = Chance(seeded(seed));
-    let further = (0..rounds).flat_map(move |i| further(&mut chance, 1 + i128::from(i % 10)));
+    let further = (0..rounds).flat_map(move |i| further(&mut chance, 1 + i128::from(i) % KINDS));
     float_random::requests(seeded(seed), rounds).chain(further)
 }
 

@@ -3,7 +3,7 @@
 use second::map::{row_latitude, row_width, row_y, wrapped, HALF_TURN, RIGHT_ANGLE};
 use second::request::Request;
 use second::requests::{place, position, seeded, within};
-use second::table::row_of;
+use second::table::{row_of, KINDS};
 
 /// How many rows are drawn.
 const ROWS: i128 = 600_000;
@@ -14,7 +14,7 @@ const ODD: i128 = HALF_TURN >> TWOS;
 
 pub fn halves(seed: u64) -> impl Iterator<Item = Request> {
     let mut state = seeded(seed);
-    (0..ROWS).flat_map(move |i| halves_of_row(&mut state, 1 + i % 10))
+    (0..ROWS).flat_map(move |i| halves_of_row(&mut state, 1 + i % KINDS))
 }
 
 /// Positions have halves on nearly every row, places on one of 512: these rows have more of them.

@@ -1,8 +1,10 @@
-//! Forward and inverse on whole numbers: the stored requests, every kind at every edge, halves, and numbers at random.
+//! Forward and inverse on whole numbers: the stored requests, every kind at every edge, every arcminute of the kinds that have
+//! a cosine, halves, and numbers at random.
 use crate::halves::halves;
 use crate::library;
 use crate::pairs::{hand_on, Call};
 use crate::part::Part;
+use second::arcminutes;
 use second::edges::{breadths, heights, latitudes, longitudes, signed, GREATEST, LEAST};
 use second::map::HALF_TURN;
 use second::record::POSITION;
@@ -41,6 +43,7 @@ fn fitting(kind: i128, numbers: [i128; 3]) -> Option<(u8, [i32; 3])> {
 pub fn forward(part: &mut Part, seed: u64) {
     FORWARD.compare_all(part, stored());
     FORWARD.compare_all(part, (0..=255).flat_map(positions));
+    FORWARD.compare_all(part, arcminutes::all());
     FORWARD.compare_all(part, halves(seed));
     FORWARD.compare_all(part, drawn(seed, DRAWN));
 }
@@ -48,12 +51,14 @@ pub fn forward(part: &mut Part, seed: u64) {
 pub fn inverse(part: &mut Part, seed: u64) {
     INVERSE.compare_all(part, stored());
     INVERSE.compare_all(part, (0..=255).flat_map(places));
+    INVERSE.compare_all(part, arcminutes::all());
     INVERSE.compare_all(part, halves(seed));
     INVERSE.compare_all(part, drawn(seed, DRAWN));
 }
 
 pub fn handed_on(part: &mut Part, seed: u64) {
     hand_on(part, [&FORWARD, &INVERSE], stored());
+    hand_on(part, [&FORWARD, &INVERSE], arcminutes::all());
     hand_on(part, [&FORWARD, &INVERSE], halves(seed));
     hand_on(part, [&FORWARD, &INVERSE], drawn(seed, DRAWN / 8));
 }

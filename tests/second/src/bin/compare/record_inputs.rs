@@ -3,6 +3,7 @@ use crate::lent::LONGEST;
 use second::record::{Record, LENGTH, PLACE, POSITION};
 use second::record_cases::{self, every_byte, faulty};
 use second::record_random::Chance;
+use second::table::KINDS;
 
 /// The input's bytes and the output's length.
 pub type Handed = (Vec<u8>, usize);
@@ -27,7 +28,7 @@ fn stored() -> Vec<Handed> {
 /// A position and a place of each kind.
 fn good() -> Vec<Record> {
     let both = |kind| [POSITION, PLACE].map(|form| faulty(form, kind, 0));
-    (1..=10).flat_map(both).collect()
+    (1..=KINDS).flat_map(both).collect()
 }
 
 /// Every length of input and output, the input with the record in front as far as it goes, and then with it again.
