@@ -39,7 +39,8 @@ unfolding halfWidth numerator oneOf oneBy qAt qBy rowOf rows combined
 eckert p = ap (λ (n : ℕ). nearest (277096497 * n) (2 * billion)) (added (cosineOf p))
 
 pub cosine-kinds : CosineKinds
-unfolding inverseOf unless isKind positionOf latitudeAt latitudeSize widthAt differenceAt height wrap rowOf rows halfWidth numerator oneOf oneBy qAt qBy radicand cosineOf sineOf line table entriesFrom entryOf series alternating next angle nearest carry
+unfolding inverseOf unless isKind positionOf latitudeAt latitudeSize widthAt differenceAt height wrap rowOf rows halfWidth
+    numerator oneOf oneBy qAt qBy radicand cosineOf sineOf line table entriesFrom entryOf series alternating next angle nearest carry
 cosine-kinds =
     record {
       sinusoidal-kx = refl;

@@ -4,19 +4,22 @@ use Prim.Native.Nat.{ℕ, suc, _+_, _*_, _-_, _/_, _%_, _^_, _≤_, _<_, min}
 use native.Mathlib.Nat.{le-trans, div-add-mod', mod-lt, mul-comm, mul-pos}
 use native.Mathlib.Omega.{arith}
 use lib.Dec.{lit<}
-use Rattle.whole.specs.Nearest.{nearest, carry, Near}
-use Rattle.whole.proofs.Rounding.{near}
+use Rattle.whole.specs.Nearest.{nearest, carry}
 use Rattle.angle.specs.Angle.{H}
 use Rattle.sine.specs.Series.{angle, next, alternating, series}
 use Rattle.sine.specs.Table.{entryOf}
 use Rattle.sine.specs.Sine.{line, sineOf, cosineOf}
-use Rattle.sine.proofs.Terms.{no-sign-dropped}
+use Rattle.sine.proofs.Terms.{taken, last}
 use Rattle.sine.proofs.Entries.{table-at, table-length, first-entry, last-entry, entries-mono}
 use Rattle.sine.proofs.Sines.{quarter-is, sine-first, sine-last, sine-mono, sine-le}
-use Rattle.claims.specs.HouseSine.{IsFloor, entryAt, HouseSine}
+use Rattle.claims.specs.HouseSine.{IsFloor, entryAt, termOf, HouseSine}
 
 floor : (n d : ℕ) → 0 < d → IsFloor n d (n / d)
-floor n d h = let e = div-add-mod' n d in let m = mod-lt n h in let c = mul-comm d (n / d) in record { low = omega arith; high = omega arith }
+floor n d h =
+    let e = div-add-mod' n d in
+    let m = mod-lt n h in
+    let c = mul-comm d (n / d) in
+    record { low = omega arith; high = omega arith }
 
 angles : (i : ℕ) → IsFloor (3141592653589793238460000 * i) 10800 (angle i)
 unfolding angle
@@ -28,13 +31,29 @@ terms a n t =
     let d = 10 ^ 24 * 10 ^ 24 * ((n + 1) * (n + 2)) in
     floor (t * (a * a)) d (mul-pos (lit< tt) (mul-pos (omega arith) (omega arith)))
 
-radian : series (10 ^ 24) ≡ 841470984807896506652542
-unfolding series alternating next
-radian = refl
+cut : (a : ℕ) → a ≤ 2 * 10 ^ 24 →
+    series a + (termOf a 1 + termOf a 3 + termOf a 5 + termOf a 7 + termOf a 9)
+    ≡ termOf a 0 + termOf a 2 + termOf a 4 + termOf a 6 + termOf a 8 + termOf a 10
+unfolding series termOf
+cut a h =
+    omega (
+      arith,
+      taken 9 a 1 (termOf a 0) h (omega arith),
+      taken 8 a 3 (termOf a 1) h (omega arith),
+      taken 7 a 5 (termOf a 2) h (omega arith),
+      taken 6 a 7 (termOf a 3) h (omega arith),
+      taken 5 a 9 (termOf a 4) h (omega arith),
+      taken 4 a 11 (termOf a 5) h (omega arith),
+      taken 3 a 13 (termOf a 6) h (omega arith),
+      taken 2 a 15 (termOf a 7) h (omega arith),
+      taken 1 a 17 (termOf a 8) h (omega arith),
+      taken 0 a 19 (termOf a 9) h (omega arith),
+      last a 21 (termOf a 10),
+    )
 
-entry : (i : ℕ) → i ≤ 5400 → Near (series (angle i)) (10 ^ 15) (entryAt i)
+entry : (i : ℕ) → i ≤ 5400 → entryAt i ≡ nearest (series (angle i)) (10 ^ 15)
 unfolding entryOf
-entry i h = rw (table-at i h) (near (series (angle i)) (10 ^ 15) (omega arith))
+entry i h = table-at i h
 
 on-line : (i f : ℕ) → i < 5400 → f < 6000 → IsFloor (entryAt i * (6000 - f) + entryAt (suc i) * f) 6000 (sineOf (6000 * i + f))
 unfolding sineOf line
@@ -65,8 +84,7 @@ house-sine =
     record {
       angles = angles;
       terms = terms;
-      radian = radian;
-      no-sign-dropped = no-sign-dropped;
+      cut = cut;
       entries = table-length;
       entry = entry;
       first-entry = table-at 0 (omega arith) ∙ first-entry;

@@ -5,27 +5,25 @@ use Prim.Native.Nat.{ℕ, _+_, _-_, _*_, _^_, _<_}
 use lib.IntN.{pos}
 use Rattle.whole.specs.Nearest.{nearest}
 use Rattle.angle.specs.Angle.{perDegree}
+use Rattle.sine.specs.Series.{one, pi}
 use Rattle.sine.specs.Sine.{cosineOf}
 use Rattle.parallel.specs.Table.{rowOf}
 use Rattle.parallel.specs.Parallel.{halfWidth}
 use Rattle.parallel.specs.Refusal.{refused, given}
 use Rattle.projection.specs.Answer.{inverseOf}
 
--- one, and pi rounded down, in units of 10^-20
-abbrev pub one : ℕ
-one = 10 ^ 20
-
-abbrev pub pi : ℕ
-pi = 314159265358979323846
-
 abbrev pub square : ℕ → ℕ
 square n = n * n
 
+-- the next number of 20 decimals, which the true pi is below
+abbrev pub abovePi : ℕ
+abovePi = pi + 10 ^ 4
+
 -- k is nearest to c pi 10^8, c being 2 over the root of (pi + 2): 2 k - 1 < 4 pi 10^8 / √(pi + 2) < 2 k + 1, squared and times
--- (pi + 2). pi is at least its 20 decimals and less than the next number of 20, and the worse of the two stands on each side
+-- (pi + 2), with the worse of pi and the next number on each side
 pub record NearestFactor (k : ℕ) : Type 0 where
-  pub above : square (2 * k - 1) * ((pi + 1 + 2 * one) * one) < square (4 * 10 ^ 8 * pi)
-  pub below : square (4 * 10 ^ 8 * (pi + 1)) < square (2 * k + 1) * ((pi + 2 * one) * one)
+  pub above : square (2 * k - 1) * ((abovePi + 2 * one) * one) < square (4 * 10 ^ 8 * pi)
+  pub below : square (4 * 10 ^ 8 * abovePi) < square (2 * k + 1) * ((pi + 2 * one) * one)
 
 -- the half-widths of a kind at 0, 30, 45, 60, 72, 89 and 90 degrees
 abbrev pub widthsOf : ℕ → List ℕ

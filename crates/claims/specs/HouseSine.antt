@@ -1,10 +1,10 @@
 -- That the house sine is order 5's: the series, the table and the line by the request's numerals, and what holds of every place.
 use mathlib.Core.Path.{_≡_}
-use Prim.Native.Nat.{ℕ, suc, _+_, _*_, _-_, _^_, _≤_, _<_}
+use Prim.Native.Nat.{ℕ, zero, suc, _+_, _*_, _-_, _^_, _≤_, _<_}
 use lib.ListN.{length, getD}
-use Rattle.whole.specs.Nearest.{Near}
+use Rattle.whole.specs.Nearest.{nearest}
 use Rattle.angle.specs.Angle.{perDegree, H}
-use Rattle.sine.specs.Series.{angle, next, alternating, series}
+use Rattle.sine.specs.Series.{angle, next, series}
 use Rattle.sine.specs.Table.{table}
 use Rattle.sine.specs.Sine.{sineOf, cosineOf}
 
@@ -17,17 +17,22 @@ pub record IsFloor (n d k : ℕ) : Type 0 where
 abbrev pub entryAt : ℕ → ℕ
 entryAt i = getD table i 0
 
+-- the size of the term of the power 2 k + 1, at an angle
+unfoldable pub termOf : ℕ → ℕ → ℕ
+termOf a zero = a
+termOf a (suc k) = next a (2 * k + 1) (termOf a k)
+
 pub record HouseSine : Type 0 where
   -- in units of 10^-24: the angle of i arcminutes by pi, and the term that follows the term t of the power n, each rounded down once
   pub angles : (i : ℕ) → IsFloor (3141592653589793238460000 * i) 10800 (angle i)
   pub terms : (a n t : ℕ) → IsFloor (t * (a * a)) (10 ^ 24 * 10 ^ 24 * ((n + 1) * (n + 2))) (next a n t)
-  -- the series at an angle of one: a cut one term before or after the 21st power would give 841470984807896506632970 or ..504
-  pub radian : series (10 ^ 24) ≡ 841470984807896506652542
-  -- up to an angle of two, which is past 90 degrees, what is taken from a term is no more than the term: no sign is dropped
-  pub no-sign-dropped : (more a n t : ℕ) → a ≤ 2 * 10 ^ 24 → 1 ≤ n → alternating more a (n + 2) (next a n t) ≤ t
+  -- the terms of the powers 1, 5, .. 21 less those of 3, 7, .. 19, up to an angle of two, which is past 90 degrees
+  pub cut : (a : ℕ) → a ≤ 2 * 10 ^ 24 →
+      series a + (termOf a 1 + termOf a 3 + termOf a 5 + termOf a 7 + termOf a 9)
+      ≡ termOf a 0 + termOf a 2 + termOf a 4 + termOf a 6 + termOf a 8 + termOf a 10
   -- 5,401 entries, each nearest to the series in billionths, from 0 to one, and never falling
   pub entries : length table ≡ 5401
-  pub entry : (i : ℕ) → i ≤ 5400 → Near (series (angle i)) (10 ^ 15) (entryAt i)
+  pub entry : (i : ℕ) → i ≤ 5400 → entryAt i ≡ nearest (series (angle i)) (10 ^ 15)
   pub first-entry : entryAt 0 ≡ 0
   pub last-entry : entryAt 5400 ≡ 1000000000
   pub entries-rise : (i j : ℕ) → i ≤ j → j ≤ 5400 → entryAt i ≤ entryAt j
