@@ -2,7 +2,7 @@
  * Uldaseong: map projections in whole numbers, proved. Longitude and latitude become places on a world map and come back, for
  * twelve atlas projections. Link target/staticlib/libuldaseong.a, which `rt staticlib uldaseong` builds for x86-64.
  *
- * Every function answers every input. It returns 0 where it converted, and else the number of the refusal:
+ * Every function answers every input. It returns 0 where it did what was asked, and else the number of the refusal:
  *
  *    1  kind is not 1..12
  *    2  a float is NaN or infinite
@@ -15,9 +15,14 @@
  *    9  mark is wrong
  *   10  form is neither 0 nor 1
  *   11  session is full
+ *   12  text not of 22 bytes
+ *   13  a sign, digit, point or slash is missing from its place in a text
+ *   14  minutes or seconds of a text are 60 or more
+ *   15  minus before zero in a text
  *
- * The first that applies is given, in the order 8, 11, 9, 10, 1, 2, 3, then 4 and 5 for a position, or 6 and 7 for a place. On a
- * refusal nothing lent has changed, but that a session counts it (8 and 11 are not counted).
+ * The first that applies is given, in the order 8, 11, 9, 10, 1, 2, 3, then 4 and 5 for a position, or 6 and 7 for a place; to read
+ * a text in the order 12, 13, 14, 15, 5, 4, and to write one in the order 12, 5, 4. On a refusal nothing lent has changed, but that
+ * a session counts it (8 and 11 are not counted).
  *
  * What a caller owes: pointers are aligned and not null, not even for a length of 0; what is lent for writing overlaps nothing else
  * that is lent; and the floating-point unit rounds to nearest (FE_TONEAREST, as every program starts), since under another mode
@@ -33,8 +38,9 @@
 extern "C" {
 #endif
 
-/* The length of a record. */
+/* The length of a record, and of a position's text. */
 #define ULDASEONG_RECORD 16
+#define ULDASEONG_TEXT 22
 
 /* Angles are whole hundredths of an arcsecond, 360,000 to the degree, east and north positive; places are whole hundred-
  * millionths of the sphere's radius. */
@@ -59,6 +65,16 @@ uint8_t uldaseong_convert_record(const uint8_t *input, size_t input_length, uint
  * session is { 0, 0 }, and any two counts are taken. One that is moved adds one to the first, one that is refused by a number
  * other than 8 and 11 adds one to the second. From a sum of 1,000,000,000 up the session is full: 11, after 8. */
 uint8_t uldaseong_feed(uint64_t counts[2], const uint8_t *input, size_t input_length, uint8_t *output, size_t output_length);
+
+/* A position as text by ISO 6709: degrees, minutes and seconds with two decimals, latitude first. +450000.00+0900000.00/ is 45
+ * degrees north and 90 east. It has no null byte at its end. */
+
+/* The position of a text: longitude, then latitude. Refusals: 12, 13, 14, 15, 5, 4. */
+uint8_t uldaseong_read_text(const uint8_t *text, size_t text_length, int32_t position[2]);
+
+/* The text of a position, which is the only one that is read as it. Zero has a plus; 180 degrees have a plus to the east and a
+ * minus to the west. Refusals: 12, 5, 4. */
+uint8_t uldaseong_write_text(int32_t longitude, int32_t latitude, uint8_t *text, size_t text_length);
 
 #ifdef __cplusplus
 }

@@ -1,12 +1,19 @@
--- The numbers of the angle's unit, the hundredth of an arcsecond ("centisecond" of document 01): those in a degree, N, H and M.
+-- The numbers of the angle's unit, the hundredth of an arcsecond ("centisecond" of document 01): those in a degree, a minute and a
+-- second, N, H and M.
 use mathlib.Core.Bool.{Bool}
 use Prim.Native.Nat.{ℕ, _*_, _/_}
 use lib.Dec.{ltb}
 use lib.IntN.{ℤ, natAbs}
 
--- a degree
+-- a degree, a minute and a second
 abbrev pub perDegree : ℕ
 perDegree = 360000
+
+abbrev pub perMinute : ℕ
+perMinute = perDegree / 60
+
+abbrev pub perSecond : ℕ
+perSecond = perMinute / 60
 
 -- 180 degrees
 abbrev pub N : ℕ

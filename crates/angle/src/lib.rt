@@ -1,4 +1,7 @@
 // An angle, and the numbers of its unit.
+mod sexagesimal;
+
+pub use sexagesimal::Sexagesimal;
 ghost use mathlib.Core.Path.{_≡_};
 ghost use Rattle.whole.specs.Signed.{splitOf, joinOf};
 ghost use Rattle.angle.specs.Angle.{outside as outsideOf};
@@ -10,8 +13,12 @@ pub struct Angle {
 }
 
 impl Angle {
-    // A degree, 180 degrees, 90 degrees, and 32 times 180 degrees.
+    // A degree, a minute, a second, 180 degrees, 90 degrees, and 32 times 180 degrees.
     pub const PER_DEGREE: u32 = 360_000;
+
+    pub const PER_MINUTE: u32 = Self::PER_DEGREE / 60;
+
+    pub const PER_SECOND: u32 = Self::PER_MINUTE / 60;
 
     pub const N: u32 = 64_800_000;
 

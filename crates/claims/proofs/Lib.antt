@@ -16,3 +16,4 @@ pub mod Floats
 pub mod Pieces
 pub mod Records
 pub mod Statuses
+pub mod Texts

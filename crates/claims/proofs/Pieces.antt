@@ -6,13 +6,13 @@ use Prim.Native.Nat.{ℕ}
 use lib.IntN.{ℤ}
 use lib.ListN.{length}
 use Rattle.parallel.specs.Refusal.{Outcome, refused, given}
+use Rattle.parallel.proofs.Orders.{not-both}
 use Rattle.record.specs.Refusal.{bothOfSize}
 use Rattle.record.specs.Answer.{judgedOf}
 use Rattle.record.proofs.Orders.{converted-8, converted}
 use Rattle.session.proofs.Orders.{fed-8, fed-11, fed}
 use Rattle.claims.specs.Demand3.{Alike}
 use Rattle.claims.specs.RecordLaws.{RecordCall, converting, feeding}
-use Rattle.claims.proofs.Refusals.{not-both}
 
 pub record Answers (h : RecordCall) : Type 0 where
   pub short : (t : h .State) (s : List ℕ) (output : ℕ) → bothOfSize (length s) output ≡ false → h .answer t s output ≡ refused 8

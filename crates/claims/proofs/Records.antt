@@ -15,6 +15,7 @@ use mir.Val.{SFits}
 use Rattle.whole.proofs.Signs.{fits}
 use Rattle.angle.specs.Angle.{N}
 use Rattle.parallel.specs.Refusal.{refused, given}
+use Rattle.parallel.proofs.Orders.{not-both}
 use Rattle.projection.specs.Answer.{forwardOf, inverseOf}
 use Rattle.little_endian.specs.Number.{bytesOf}
 use Rattle.record.specs.Record.{size, mark, position, place, otherForm, recordOf, hasMark, kindIn, formIn, centralIn, firstIn, secondIn, movedOf}
@@ -24,7 +25,6 @@ use Rattle.record.proofs.Orders.{judged-9, judged-10, judged-position, judged-p
 use Rattle.record.proofs.Stored.{central-in, first-in, second-in, position-read, place-read}
 use Rattle.claims.specs.Demand3.{Demand3, numbers, Alike, TurnedX, TurnedY, SamePosition, ClosePlace, Shares}
 use Rattle.claims.specs.RecordLaws.{RecordCall, SameHead, TurnedEast, TurnedNorth, withLongitude, OtherLongitude, FedAgain, SharedRecord, RecordLaws}
-use Rattle.claims.proofs.Refusals.{not-both}
 use Rattle.claims.proofs.Accepted as Accepted
 use Rattle.claims.proofs.Small.{place-small, position-small}
 use Rattle.claims.proofs.Pieces.{Answers, both-refused, converted-as, alike}

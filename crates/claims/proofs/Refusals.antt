@@ -2,16 +2,13 @@
 use mathlib.Core.Bool.{Bool, true, false, cond}
 use mathlib.Core.List.{List, [], _∷_, _++_}
 use mathlib.Core.Logic.{_↔_}
-use mathlib.Core.Path.{_≡_, refl, ap}
+use mathlib.Core.Path.{_≡_, refl, sym, ap}
 use Prim.Native.Nat.{ℕ}
-use native.Mathlib.Omega.{arith}
 use Rattle.parallel.specs.Refusal.{Refusal, refused, given, unless}
+use Rattle.parallel.proofs.Orders.{not-both, passes, all-pass}
 use Rattle.claims.specs.Demand1.{None, First, numbersOf, Ordered}
 
 module _ {A : Type 0} where
-  pub not-both : (n : ℕ) (b : A) → refused n ≡ given b → ⊥
-  not-both n b e = let z : _≡_ {A = ℕ} 0 1 = cc in omega arith
-
   pub unless-none : (order : List Refusal) (a : A) → None order → unless order a ≡ given a
   unfolding unless
   unless-none [] a h = refl
@@ -19,17 +16,15 @@ module _ {A : Type 0} where
 
   pub unless-given : (order : List Refusal) (a b : A) → unless order a ≡ given b → None order × (b ≡ a)
   unfolding unless
-  unless-given [] a b e = (tt, (cc))
-  unless-given (r ∷ rs) a b e = go (r .applies) refl e (unless-given rs a b)
-    where
-      go : (t : Bool) → r .applies ≡ t → cond t (refused (r .number)) (unless rs a) ≡ given b →
-          (unless rs a ≡ given b → None rs × (b ≡ a)) → None (r ∷ rs) × (b ≡ a)
-      go true h k on = absurd (not-both (r .number) b k)
-      go false h k on = let n = on k in ((h, n .0), n .1)
+  unless-given [] a b e = (tt, sym (all-pass a b e))
+  unless-given (r ∷ rs) a b e =
+      let p = passes r rs a b e in
+      let n = unless-given rs a b (p .1) in
+      ((p .0, n .0), n .1)
 
   unless-first : (order : List Refusal) (a : A) (n : ℕ) → unless order a ≡ refused n → First order n
   unfolding unless
-  unless-first [] a n e = absurd (let z : _≡_ {A = ℕ} 0 1 = cc in omega arith)
+  unless-first [] a n e = absurd (not-both n a (sym e))
   unless-first (r ∷ rs) a n e = go (r .applies) refl e (unless-first rs a n)
     where
       go : (t : Bool) → r .applies ≡ t → cond t (refused (r .number)) (unless rs a) ≡ refused n →

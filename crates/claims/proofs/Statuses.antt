@@ -7,6 +7,7 @@ use Rattle.parallel.specs.Refusal.{Refusal, Outcome, refused, given, OfNumber, 
 use Rattle.parallel.proofs.Orders.{OfNumbers, unless-number}
 use Rattle.projection.specs.Answer.{forwardOf, inverseOf}
 use Rattle.degrees.specs.Answer.{forwardOf as forwardDegrees, inverseOf as inverseDegrees}
+use Rattle.iso6709.specs.Answer.{readOf, writeOf}
 use Rattle.record.specs.Answer.{convertOf}
 use Rattle.record.proofs.Orders.{pair-numbers}
 use Rattle.session.specs.Session.{feedOf}
@@ -24,7 +25,7 @@ ordered : {A : Type 0} (order : List Refusal) (a : A) → OfNumbers Above0 order
 ordered order a h = tells (unless order a) (unless-number Above0 order a h)
 
 pub interface : Interface
-unfolding forwardOf inverseOf forwardDegrees inverseDegrees convertOf feedOf
+unfolding forwardOf inverseOf forwardDegrees inverseDegrees convertOf feedOf readOf writeOf
 interface =
     record {
       forward = λ kind c l f. ordered _ _ (tt, (tt, (tt, (tt, tt))));
@@ -33,6 +34,8 @@ interface =
       inverse-degrees = λ kind c x y. ordered _ _ (tt, (tt, (tt, (tt, (tt, (tt, (tt, tt)))))));
       convert-record = λ input output. ordered _ _ (tt, (tt, (tt, pair-numbers Above0 input tt tt tt tt tt tt)));
       feed = λ session input output. ordered _ _ (tt, (tt, (tt, (tt, pair-numbers Above0 input tt tt tt tt tt tt))));
+      read-text = λ text. ordered _ _ (tt, (tt, (tt, (tt, (tt, (tt, tt))))));
+      write-text = λ l f room. ordered _ _ (tt, (tt, (tt, tt)));
       pair-given = λ pair first second. refl;
       pair-refused = λ pair n. refl;
       counts-are = λ session. refl;

@@ -15,8 +15,10 @@ use Rattle.parallel.specs.Answer.{widthOrder, widthOf}
 use Rattle.projection.specs.Forward.{placeOf}
 use Rattle.projection.specs.Inverse.{positionOf}
 use Rattle.projection.specs.Answer.{forwardOrder, inverseOrder, forwardOf, inverseOf}
+use Rattle.angle.specs.Sexagesimal.{signedOf}
 use Rattle.reading.specs.Reading.{centiseconds, units}
 use Rattle.degrees.specs.Answer.{writtenPlace, writtenPosition, forwardOrder as forwardDegreesOrder, inverseOrder as inverseDegreesOrder, forwardOf as forwardDegrees, inverseOf as inverseDegrees}
+use Rattle.iso6709.specs.Answer.{latitudeIn, longitudeIn, positionIn, readOrder, readOf, textOf, writeOrder, writeOf}
 use Rattle.record.specs.Record.{formIn}
 use Rattle.record.specs.Answer.{pairOf, convertOrder, convertOf, outputAfter}
 use Rattle.session.specs.declared.Session.{Session}
@@ -79,5 +81,12 @@ pub record Demand1 : Type 0 where
   pub feed : (session : Session) (input : List ℕ) (output : ℕ) →
       Ordered (feedOf session input output) (feedOrder session input output)
       (8 ∷ 11 ∷ 9 ∷ 10 ∷ 1 ∷ 3 ∷ byForm (formIn input)) (pairOf input)
+  -- on texts: the bytes of one, or a position and the length of the lent text; the latitude before the longitude
+  pub read-text : (text : List ℕ) →
+      Ordered (readOf text) (readOrder text)
+      (12 ∷ 13 ∷ 14 ∷ 15 ∷ 5 ∷ 4 ∷ []) (positionIn (signedOf (longitudeIn text)) (signedOf (latitudeIn text)))
+  pub write-text : (longitude latitude : ℤ) (room : ℕ) →
+      Ordered (writeOf longitude latitude room) (writeOrder longitude latitude room)
+      (12 ∷ 5 ∷ 4 ∷ []) (textOf longitude latitude)
   -- a refusal leaves the output piece as it was lent, whatever its length
   pub output-kept : (input output : List ℕ) (n : ℕ) → outputAfter input output (refused n) ≡ output

@@ -9,6 +9,7 @@ use lib.IntN.{ℤ}
 use Rattle.parallel.specs.Refusal.{Outcome, refused, given}
 use Rattle.projection.specs.Answer.{forwardOf, inverseOf}
 use Rattle.degrees.specs.Answer.{forwardOf as forwardDegrees, inverseOf as inverseDegrees}
+use Rattle.iso6709.specs.Answer.{readOf, writeOf}
 use Rattle.record.specs.Answer.{convertOf}
 use Rattle.session.specs.declared.Session.{Session}
 use Rattle.session.specs.Session.{feedOf}
@@ -18,7 +19,7 @@ abbrev pub Converted : {A : Type 0} → Outcome A → Type 0
 Converted (given a) = Unit {0}
 Converted (refused n) = ⊥
 
--- a status of 0 says that the call converted, and that of a refusal is its number
+-- a status of 0 says that the call did what was asked, and that of a refusal is its number
 pub record Tells {A : Type 0} (outcome : Outcome A) : Type 0 where
   pub converted : (statusOf outcome ≡ 0) ↔ Converted outcome
   pub number : (n : ℕ) → outcome ≡ refused n → statusOf outcome ≡ n
@@ -30,6 +31,8 @@ pub record Interface : Type 0 where
   pub inverse-degrees : (kind : ℕ) (central x y : Float) → Tells (inverseDegrees kind central x y)
   pub convert-record : (input : List ℕ) (output : ℕ) → Tells (convertOf input output)
   pub feed : (session : Session) (input : List ℕ) (output : ℕ) → Tells (feedOf session input output)
+  pub read-text : (text : List ℕ) → Tells (readOf text)
+  pub write-text : (longitude latitude : ℤ) (room : ℕ) → Tells (writeOf longitude latitude room)
   -- the lent pair has x and then y, or longitude and then latitude; a refusal leaves it
   pub pair-given : (pair : List ℤ) (first second : ℤ) → pairAfter pair (given (first, second)) ≡ first ∷ second ∷ []
   pub pair-refused : (pair : List ℤ) (n : ℕ) → pairAfter pair (refused n) ≡ pair

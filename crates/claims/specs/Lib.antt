@@ -14,3 +14,5 @@ pub mod Arithmetic
 pub mod ExactRoot
 pub mod HouseSine
 pub mod CosineKinds
+pub mod Texts
+pub mod TextExamples

@@ -1,28 +1,25 @@
 -- Text put into a buffer.
-use mathlib.Core.Path.{_≡_, refl, sym, ap, _∙_, subst}
+use mathlib.Core.Path.{_≡_, refl, sym, ap, _∙_}
 use mathlib.Core.Bool.{Bool, true, false}
-use mathlib.Core.List.{List, [], _∷_, _++_, append-assoc}
+use mathlib.Core.List.{List, [], _++_, append-assoc}
 use Prim.Native.Nat.{ℕ, _+_, _-_, _≤_, _<_}
 use native.Mathlib.Nat.{zero-add}
-use native.Mathlib.Numerals.{add-one}
 use native.Mathlib.Omega.{arith}
 use borrow.Author.Tests.{leb-false}
 use borrow.Rule.Slice.PartMut.{mid-len}
 use lib.Dec.{leb}
 use lib.IntN.{ℤ}
-use lib.ListN.{length, take, drop, set, length-append, take-append-drop}
-use lib.Seq.{paste, take-at, take-length, length-take-le, drop-append-le, drop-append-add, drop-drop, set-split}
+use lib.ListN.{length, take, drop, length-append, take-append-drop}
+use lib.Seq.{paste, take-length, drop-append-le, drop-drop}
 use mir.Syntax.{w32}
 use mir.Val.{SFits, toZ, ofZ}
 use mir.Facts.{toZ-ofZ}
+use Rattle.digits.specs.Put.{putAt, Put}
+use Rattle.digits.proofs.Puts.{put-twice}
 use Rattle.lines.specs.declared.buffer.Text.{Text}
 use Rattle.lines.specs.declared.buffer.Text.the-variants.{Bytes, TooShort}
 use Rattle.lines.specs.Decimal.{numberText}
-use Rattle.lines.specs.Buffer.{putAt, putFront, Put, Placed}
-
-pub put-byte : (l : List ℕ) (at byte : ℕ) → at < length l → Put l at (byte ∷ []) (at + 1) (set l at byte)
-unfolding putAt
-put-byte l at byte h = record { behind = refl; holds = rw (add-one at) (set-split l at byte h) }
+use Rattle.lines.specs.Buffer.{putFront, Placed}
 
 -- a whole copy
 pub put-copy : (l l′ text : List ℕ) (at i : ℕ) → i ≡ length text → l′ ≡ paste l at text i → Put l at text (at + i) l′
@@ -33,28 +30,7 @@ put-copy l l′ text at i e p =
       holds = p ∙ rw (e, take-length text) (append-assoc (take at l) text (drop (at + length text) l));
     }
 
-drop-past : (p q : List ℕ) (m n : ℕ) → length p ≡ m → drop (m + n) (p ++ q) ≡ drop n q
-drop-past p q m n e = subst (λ (k : ℕ). drop (k + n) (p ++ q) ≡ drop n q) e (drop-append-add p q n)
-
--- one text behind the other
-pub put-twice : {l l′ l″ text more : List ℕ} {at next end : ℕ} → at ≤ length l → Put l at text next l′ → Put l′ next more end l″ →
-    Put l at (text ++ more) end l″
-unfolding putAt
-put-twice {l} {l′} {l″} {text} {more} {at} {next} {end} h p q =
-    let m : ℕ = at + length text in
-    let pre : List ℕ = take at l ++ text in
-    let len : length pre ≡ m = length-append (take at l) text ∙ ap (λ (k : ℕ). k + length text) (length-take-le at l h) in
-    let e : l′ ≡ pre ++ drop m l = p .holds ∙ sym (append-assoc (take at l) text (drop m l)) in
-    let t : take next l′ ≡ pre = rw (p .behind, e) (take-at pre (drop m l) m len) in
-    let n : m + length more ≡ at + length (text ++ more) = omega (arith, length-append text more) in
-    let d : drop (next + length more) l′ ≡ drop (at + length (text ++ more)) l =
-    rw (p .behind, e) (drop-past pre (drop m l) m (length more) len ∙ drop-drop (length more) m l ∙ ap (λ (k : ℕ). drop k l) n) in
-    record {
-      behind = omega arith;
-      holds = q .holds ∙ rw (t, d) (simp append-assoc);
-    }
-
--- the first of them at the front
+-- one text behind another, the first of them at the front
 pub put-behind : {l l′ l″ text more : List ℕ} {next end : ℕ} → Put l 0 text next l′ → Put l′ next more end l″ →
     Put l 0 (text ++ more) end l″
 put-behind {l} p q = let z : 0 ≤ length l = omega arith in put-twice z p q

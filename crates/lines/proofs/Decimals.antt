@@ -1,64 +1,23 @@
--- Decimal text: that it is what it should be, how long it is, and that it is the last digits of its number.
+-- Decimal text: how long it is, that it is the last digits of its number, and so what it should be.
 use mathlib.Core.Path.{_≡_, refl, ap, _∙_}
 use mathlib.Core.Bool.{true, false}
 use mathlib.Core.List.{List, [], _∷_, _++_}
 use Prim.Native.Nat.{ℕ, zero, suc, _+_, _-_, _*_, _/_, _%_, _^_, _≤_, _<_}
-use native.Mathlib.Nat.{le-refl}
+use native.Mathlib.Nat.{le-refl, pow-succ'}
 use native.Mathlib.Numerals.{add-one}
 use native.Mathlib.Omega.{arith}
 use lib.IntN.{ℤ, pos, negsuc}
 use lib.ListN.{length, getD, length-append}
 use Rattle.whole.specs.declared.Signed.{Signed}
 use Rattle.whole.specs.Signed.{splitOf}
-use Rattle.lines.specs.Decimal.{nought, hyphen, digitsIn, decimalOf, numberText, lastDigits, valueFrom, AllDigits, IsDecimal, DecimalText}
-
--- ---- what it is
-
-value-behind : (ds : List ℕ) (v d : ℕ) → valueFrom v (ds ++ (d ∷ [])) ≡ valueFrom v ds * 10 + (d - nought)
-unfolding valueFrom
-value-behind [] v d = refl
-value-behind (e ∷ ds) v d = value-behind ds (v * 10 + (e - nought)) d
-
-digits-behind : (ds : List ℕ) (d : ℕ) → AllDigits ds → nought ≤ d → d ≤ nought + 9 → AllDigits (ds ++ (d ∷ []))
-digits-behind [] d a l u = (l, u, tt)
-digits-behind (e ∷ ds) d a l u = (a .0, a .1, digits-behind ds d (a .2) l u)
-
--- the first digit of a text and one behind it
-first-behind : (ds : List ℕ) (d : ℕ) → nought < getD ds 0 nought → nought < getD (ds ++ (d ∷ [])) 0 nought
-first-behind [] d h = absurd (omega arith)
-first-behind (e ∷ ds) d h = h
-
-first-alone : (ds : List ℕ) (d : ℕ) → ds ≡ [] → nought < d → nought < getD (ds ++ (d ∷ [])) 0 nought
-first-alone ds d e h = rw e h
+use Rattle.digits.specs.Digits.{nought, lastDigits}
+use Rattle.digits.proofs.Values.{last-are-digits, value-last}
+use Rattle.lines.specs.Decimal.{hyphen, digitsIn, decimalOf, numberText, DecimalText}
 
 no-digits : (turns : ℕ) → digitsIn turns 0 ≡ []
 unfolding digitsIn
 no-digits zero = refl
 no-digits (suc turns) = refl
-
-digits-are : (turns n : ℕ) → n ≤ turns → IsDecimal n (digitsIn turns n)
-unfolding digitsIn valueFrom
-digits-are zero n h = record { all-digits = tt; reads-back = omega arith; no-leading-zero = λ p. absurd (omega arith) }
-digits-are (suc turns) zero h = record { all-digits = tt; reads-back = refl; no-leading-zero = λ p. absurd (omega arith) }
-digits-are (suc turns) (suc m) h =
-    let n : ℕ = suc m in
-    let front = digitsIn turns (n / 10) in
-    let d : ℕ = nought + n % 10 in
-    let r = digits-are turns (n / 10) (omega arith) in
-    record {
-      all-digits = digits-behind front d (r .all-digits) (omega arith) (omega arith);
-      reads-back = value-behind front 0 d ∙ omega arith;
-      no-leading-zero = λ p. first (n / 10) refl (r .no-leading-zero);
-    } where
-      first : (q : ℕ) → q ≡ suc m / 10 → (0 < q → nought < getD (digitsIn turns q) 0 nought) →
-          nought < getD (digitsIn turns q ++ ((nought + suc m % 10) ∷ [])) 0 nought
-      first zero e f = first-alone (digitsIn turns 0) (nought + suc m % 10) (no-digits turns) (omega arith)
-      first (suc q) e f = first-behind (digitsIn turns (suc q)) (nought + suc m % 10) (f (omega arith))
-
-pub is-decimal : DecimalText
-unfolding decimalOf valueFrom
-is-decimal zero = record { all-digits = (omega arith, omega arith, tt); reads-back = refl; no-leading-zero = λ p. absurd (omega arith) }
-is-decimal (suc m) = digits-are (suc m) (suc m) (le-refl (suc m))
 
 -- ---- how long it is
 
@@ -112,6 +71,56 @@ pub last-digits : (n : ℕ) → lastDigits (length (decimalOf n)) n ≡ decimalO
 unfolding decimalOf lastDigits
 last-digits zero = refl
 last-digits (suc m) = last-digits-in (suc m) (suc m)
+
+-- ---- what it is
+
+-- a number has the digits to hold it
+digits-hold : (turns n : ℕ) → n ≤ turns → n < 10 ^ length (digitsIn turns n)
+unfolding digitsIn
+digits-hold zero n h = omega arith
+digits-hold (suc turns) zero h = omega arith
+digits-hold (suc turns) (suc m) h =
+    let k : ℕ = length (digitsIn turns (suc m / 10)) in
+    let l : suc m / 10 < 10 ^ k = digits-hold turns (suc m / 10) (omega arith) in
+    rw (length-behind (digitsIn turns (suc m / 10)) (nought + suc m % 10), pow-succ' 10 k) (omega arith)
+
+decimal-holds : (n : ℕ) → n < 10 ^ length (decimalOf n)
+unfolding decimalOf
+decimal-holds zero = omega arith
+decimal-holds (suc m) = digits-hold (suc m) (suc m) (le-refl (suc m))
+
+-- the first digit of a text and one behind it
+first-behind : (ds : List ℕ) (d : ℕ) → nought < getD ds 0 nought → nought < getD (ds ++ (d ∷ [])) 0 nought
+first-behind [] d h = absurd (omega arith)
+first-behind (e ∷ ds) d h = h
+
+first-alone : (ds : List ℕ) (d : ℕ) → ds ≡ [] → nought < d → nought < getD (ds ++ (d ∷ [])) 0 nought
+first-alone ds d e h = rw e h
+
+first-digit : (turns n : ℕ) → n ≤ turns → 0 < n → nought < getD (digitsIn turns n) 0 nought
+unfolding digitsIn
+first-digit zero n h p = absurd (omega arith)
+first-digit (suc turns) zero h p = absurd (omega arith)
+first-digit (suc turns) (suc m) h p = go (suc m / 10) refl (first-digit turns (suc m / 10) (omega arith))
+  where
+    go : (q : ℕ) → q ≡ suc m / 10 → (0 < q → nought < getD (digitsIn turns q) 0 nought) →
+        nought < getD (digitsIn turns q ++ ((nought + suc m % 10) ∷ [])) 0 nought
+    go zero e f = first-alone (digitsIn turns 0) (nought + suc m % 10) (no-digits turns) (omega arith)
+    go (suc q) e f = first-behind (digitsIn turns (suc q)) (nought + suc m % 10) (f (omega arith))
+
+first-decimal : (n : ℕ) → 0 < n → nought < getD (decimalOf n) 0 nought
+unfolding decimalOf
+first-decimal zero p = absurd (omega arith)
+first-decimal (suc m) p = first-digit (suc m) (suc m) (le-refl (suc m)) p
+
+pub is-decimal : DecimalText
+is-decimal n =
+    let k : ℕ = length (decimalOf n) in
+    record {
+      all-digits = rw (last-digits n) at (last-are-digits k n);
+      reads-back = rw (last-digits n) at (value-last k n (decimal-holds n));
+      no-leading-zero = first-decimal n;
+    }
 
 -- ---- signs
 

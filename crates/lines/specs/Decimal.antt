@@ -1,14 +1,12 @@
 -- Numbers as decimal text, in ASCII.
 use mathlib.Core.Path.{_≡_}
 use mathlib.Core.List.{List, [], _∷_, _++_}
-use Prim.Native.Nat.{ℕ, zero, suc, _+_, _-_, _*_, _/_, _%_, _≤_, _<_}
+use Prim.Native.Nat.{ℕ, zero, suc, _+_, _/_, _%_, _<_}
 use lib.IntN.{ℤ, pos, negsuc}
 use lib.ListN.{getD}
+use Rattle.digits.specs.Digits.{nought, AllDigits, valueOf}
 
--- '0' and '-'
-abbrev pub nought : ℕ
-nought = 48
-
+-- '-'
 abbrev pub hyphen : ℕ
 hyphen = 45
 
@@ -29,25 +27,10 @@ unfoldable pub numberText : ℤ → List ℕ
 numberText (pos n) = decimalOf n
 numberText (negsuc m) = hyphen ∷ decimalOf (suc m)
 
--- the last k digits of n, with zeros in front where it has fewer
-unfoldable pub lastDigits : ℕ → ℕ → List ℕ
-lastDigits zero n = []
-lastDigits (suc k) n = lastDigits k (n / 10) ++ ((nought + n % 10) ∷ [])
-
--- the number of a text of digits, read from its front behind what was read before
-unfoldable pub valueFrom : ℕ → List ℕ → ℕ
-valueFrom v [] = v
-valueFrom v (d ∷ ds) = valueFrom (v * 10 + (d - nought)) ds
-
--- nothing but digits
-abbrev pub AllDigits : List ℕ → Type 0
-AllDigits [] = Unit {0}
-AllDigits (d ∷ ds) = (nought ≤ d) × (d ≤ nought + 9) × AllDigits ds
-
 -- what makes it the decimal text: digits, which read back are the number, with no zero in front but for 0 itself
 pub record IsDecimal (n : ℕ) (text : List ℕ) : Type 0 where
   pub all-digits : AllDigits text
-  pub reads-back : valueFrom 0 text ≡ n
+  pub reads-back : valueOf text ≡ n
   pub no-leading-zero : 0 < n → nought < getD text 0 nought
 
 abbrev pub DecimalText : Type 0

@@ -2,7 +2,7 @@
 ghost use mathlib.Core.List.{[], _∷_};
 ghost use Prim.Native.Nat.{_+_, _≤_, _<_};
 ghost use lib.ListN.{length};
-ghost use Rattle.lines.specs.Buffer.{Put};
+ghost use Rattle.digits.specs.Put.{Put};
 
 // How many bytes of text stand at the front of a buffer; or that the buffer is too short, and as it was.
 pub enum Text {

@@ -1,11 +1,11 @@
 // Numbers as decimal text.
 ghost use mathlib.Core.Path.{_≡_};
-ghost use mathlib.Core.List.{_++_};
 ghost use Prim.Native.Nat.{_+_, _≤_};
-ghost use lib.ListN.{length, take, drop};
-ghost use Rattle.lines.specs.Decimal.{decimalOf, lastDigits, numberText};
-ghost use Rattle.lines.specs.Buffer.{Put};
+ghost use lib.ListN.{length};
+ghost use Rattle.digits.specs.Put.{Put};
+ghost use Rattle.lines.specs.Decimal.{decimalOf, numberText};
 use super::buffer::put_byte;
+use digits::put_digits;
 use whole::Signed;
 
 // Puts a number of 32 bits at a place, and answers the place behind it: 11 bytes at most.
@@ -30,7 +30,7 @@ pub(crate) fn put_decimal(text: &mut [u8], at: usize, n: u64) -> usize
     ensures { λ r. ⌜ Put (now (text .entry)) at (decimalOf n) r (now (text .exit)) ⌝ }
 {
     let count = width(n);
-    put_digits(text, at, count, n);
+    put_digits(&mut text[at..at + count], n);
     at + count
 }
 
@@ -46,18 +46,4 @@ fn width(n: u64) -> usize
         count += 1;
     }
     count
-}
-
-// Puts the last `count` digits of n at a place, the last first.
-fn put_digits(text: &mut [u8], at: usize, count: usize, n: u64)
-    requires { ⌜ at + count ≤ length (now text) ⌝ }
-    ensures { λ _. ⌜ now (text .exit) ≡ take at (now (text .entry)) ++ (lastDigits count n ++ drop (at + count) (now (text .entry))) ⌝ }
-{
-    let mut i = count;
-    let mut rest = n;
-    while i > 0 {
-        i -= 1;
-        text[at + i] = (48 + rest % 10) as u8;
-        rest /= 10;
-    }
 }

@@ -3,7 +3,8 @@ use mathlib.Core.Bool.{Bool, true, false, cond}
 use mathlib.Core.List.{List, [], _∷_}
 use mathlib.Core.Path.{_≡_, refl}
 use Prim.Native.Nat.{ℕ}
-use Rattle.parallel.specs.Refusal.{Refusal, refused, OfNumber, onGiven, unless}
+use native.Mathlib.Omega.{arith}
+use Rattle.parallel.specs.Refusal.{Refusal, refused, given, OfNumber, onGiven, unless}
 
 -- a refusal applies, or not
 abbrev pub Applies : Refusal → Type 0
@@ -37,3 +38,20 @@ on-unless g (r ∷ rs) a = go (r .applies) (on-unless g rs a)
         onGiven g (cond b (refused (r .number)) (unless rs a)) ≡ cond b (refused (r .number)) (unless rs (g a))
     go true e = refl
     go false e = e
+
+-- an order that lets an answer through: its first refusal passes, and the rest let it through
+module _ {A : Type 0} where
+  pub not-both : (n : ℕ) (b : A) → refused n ≡ given b → ⊥
+  not-both n b e = let z : _≡_ {A = ℕ} 0 1 = cc in omega arith
+
+  pub passes : (r : Refusal) (rs : List Refusal) (a b : A) → unless (r ∷ rs) a ≡ given b → Passes r × (unless rs a ≡ given b)
+  unfolding unless
+  passes r rs a b e = go (r .applies) refl e
+    where
+      go : (t : Bool) → r .applies ≡ t → cond t (refused (r .number)) (unless rs a) ≡ given b → Passes r × (unless rs a ≡ given b)
+      go true t k = absurd (not-both (r .number) b k)
+      go false t k = (t, k)
+
+  pub all-pass : (a b : A) → unless [] a ≡ given b → a ≡ b
+  unfolding unless
+  all-pass a b e = cc

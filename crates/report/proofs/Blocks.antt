@@ -11,7 +11,7 @@ use Rattle.record.specs.Record.{size}
 use Rattle.session.specs.declared.Session.{Session}
 use Rattle.session.specs.declared.Fed.{Fed}
 use Rattle.session.specs.Session.{feedOf, sessionAfter}
-use Rattle.lines.specs.Buffer.{Put}
+use Rattle.digits.specs.Put.{Put}
 use Rattle.lines.specs.Line.{lineOf}
 use Rattle.lines.proofs.Buffers.{put-none, put-behind}
 use Rattle.report.specs.Block.{recordAt, answerAt, sessionAt, linesOf, SessionsCompose, LinesCompose}

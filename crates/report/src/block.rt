@@ -2,7 +2,7 @@
 ghost use Prim.Native.Nat.{_+_, _≤_};
 ghost use lib.ListN.{length};
 ghost use Rattle.projection.specs.Answer.{meaning};
-ghost use Rattle.lines.specs.Buffer.{Put};
+ghost use Rattle.digits.specs.Put.{Put};
 ghost use Rattle.lines.specs.Line.{lineOf, lineRoom};
 ghost use Rattle.report.specs.Block.{Converted};
 use lines::LINE_ROOM;

@@ -7,9 +7,6 @@ ghost use Rattle.sine.specs.Sine.{sineOf, cosineOf};
 use angle::Angle;
 use entry::entry_at;
 
-// An arcminute.
-const MINUTE: u32 = Angle::PER_DEGREE / 60;
-
 // One, in billionths.
 pub const BILLION: u32 = 1_000_000_000;
 
@@ -30,9 +27,9 @@ pub fn sine(c: u32) -> u32
     if Angle::H <= c {
         return BILLION;
     }
-    let i = c / MINUTE;
-    let f = (c % MINUTE) as u64;
+    let i = c / Angle::PER_MINUTE;
+    let f = (c % Angle::PER_MINUTE) as u64;
     let low = entry_at(i) as u64;
     let high = entry_at(i + 1) as u64;
-    ((low * (MINUTE as u64 - f) + high * f) / (MINUTE as u64)) as u32
+    ((low * (Angle::PER_MINUTE as u64 - f) + high * f) / (Angle::PER_MINUTE as u64)) as u32
 }

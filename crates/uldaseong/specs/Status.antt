@@ -5,7 +5,7 @@ use lib.ListN.{getD}
 use Rattle.parallel.specs.Refusal.{Outcome, refused, given}
 use Rattle.session.specs.declared.Session.{Session}
 
--- 0 for converted, else the refusal's number
+-- 0 where the call did what was asked, else the refusal's number
 abbrev pub statusOf : {A : Type 0} → Outcome A → ℕ
 statusOf (given a) = 0
 statusOf (refused n) = n

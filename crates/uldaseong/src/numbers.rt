@@ -35,7 +35,7 @@ pub extern "C" fn uldaseong_inverse(
 }
 
 // Puts an answer's pair into lent memory, and gives the status.
-fn hand_out(answer: Answer, pair: &mut [i32; 2]) -> u8
+pub(crate) fn hand_out(answer: Answer, pair: &mut [i32; 2]) -> u8
     ensures { λ r. ⌜ r ≡ statusOf (meaning answer) ⌝ }
     ensures { λ _. ⌜ now (pair .exit) ≡ pairAfter (now (pair .entry)) (meaning answer) ⌝ }
 {

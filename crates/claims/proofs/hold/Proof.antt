@@ -17,6 +17,7 @@ use Rattle.whole.proofs.Rounding.{near, nearest-zero, half}
 use Rattle.whole.proofs.Squares.{root-is}
 use Rattle.whole.proofs.Signs.{natAbs-on, on-neg}
 use Rattle.angle.specs.Angle.{N, H}
+use Rattle.angle.specs.Sexagesimal.{signedOf}
 use Rattle.parallel.specs.declared.table.Row.{Row}
 use Rattle.parallel.specs.Table.{rows, rowOf}
 use Rattle.parallel.specs.Parallel.{radicand, qBy, qAt, oneBy, oneOf, numerator, halfWidth, height}
@@ -35,6 +36,7 @@ use Rattle.degrees.specs.Writing.{degreesOf, unitsOf}
 use Rattle.degrees.specs.Answer.{writtenPlace, writtenPosition, forwardOrder as forwardDegreesOrder, inverseOrder as inverseDegreesOrder, forwardOf as forwardDegrees, inverseOf as inverseDegrees}
 use Rattle.degrees.proofs.Written.{degrees-stand, units-stand}
 use Rattle.little_endian.specs.Number.{bytesOf, numberAt}
+use Rattle.iso6709.specs.Answer.{latitudeIn, longitudeIn, positionIn, readOrder, readOf as readText, textOf, writeOrder, writeOf as writeText}
 use Rattle.record.specs.Record.{recordOf, kindIn, formIn, centralIn, firstIn, secondIn, movedOf}
 use Rattle.record.specs.Answer.{pairOrder, pairOf, convertOrder, convertOf, outputAfter}
 use Rattle.session.specs.Session.{opened, cap, feedOrder, feedOf, sessionAfter}
@@ -75,6 +77,7 @@ use Rattle.claims.proofs.Floats.{floats-by-numbers}
 use Rattle.claims.proofs.Pieces.{converting-answers, feeding-answers}
 use Rattle.claims.proofs.Records.{records-by-numbers}
 use Rattle.claims.proofs.Statuses.{interface}
+use Rattle.claims.proofs.Texts.{texts, text-examples}
 use Rattle.claims.proofs.hold.Statement.{statement}
 use Rattle.claims.proofs.hold.Tie as tie
 
@@ -104,7 +107,7 @@ pair-numbers bytes = go (eqb (formIn bytes) 0) (kindIn bytes) (centralIn bytes) 
     go false kind c u v = refl
 
 refusals : Demand1
-unfolding widthOf forwardOf inverseOf forwardDegrees inverseDegrees convertOf feedOf outputAfter rows
+unfolding widthOf forwardOf inverseOf forwardDegrees inverseDegrees convertOf feedOf outputAfter readText writeText rows
 refusals =
     record {
       kinds = λ kind. (kind-range kind, kind-in kind);
@@ -119,6 +122,8 @@ refusals =
           (writtenPosition (positionOf (rowOf kind) (centiseconds c) (units x) (units y))) refl;
       convert-record = λ input output. ordered (convertOrder input output) (pairOf input) (rw (pair-numbers input) refl);
       feed = λ session input output. ordered (feedOrder session input output) (pairOf input) (rw (pair-numbers input) refl);
+      read-text = λ text. ordered (readOrder text) (positionIn (signedOf (longitudeIn text)) (signedOf (latitudeIn text))) refl;
+      write-text = λ l f room. ordered (writeOrder l f room) (textOf l f) refl;
       output-kept = λ input output n. refl;
     }
 
@@ -231,7 +236,7 @@ printing =
     }
 
 returns : tie.Need-returns
-returns c = (demands, sharp, worked, record-example, arithmetic, house-sine, cosine-kinds, written, printing, interface)
+returns c = (demands, sharp, worked, record-example, arithmetic, house-sine, cosine-kinds, written, printing, interface, texts, text-examples)
 
 pub hold-spec : {M : Type 1} → statement M
 hold-spec = tie.close (tie.spec returns)

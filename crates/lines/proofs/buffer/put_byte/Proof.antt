@@ -1,7 +1,7 @@
 -- `lines::buffer::put_byte` meets its contract.
 use borrow.Author.Needs.{needs}
 use denote.Ref.{now}
-use Rattle.lines.proofs.Buffers.{put-byte}
+use Rattle.digits.proofs.Puts.{put-byte}
 use Rattle.lines.proofs.buffer.put_byte.Statement.{statement}
 use Rattle.lines.proofs.buffer.put_byte.Tie as tie
 

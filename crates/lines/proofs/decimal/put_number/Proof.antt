@@ -7,9 +7,9 @@ use denote.Ref.{now}
 use lib.ListN.{length}
 use mir.Facts.{toZ-ofZ}
 use Rattle.whole.specs.Signed.{splitOf}
+use Rattle.digits.proofs.Puts.{put-twice}
 use Rattle.lines.specs.Decimal.{decimalOf}
 use Rattle.lines.proofs.Decimals.{decimal-le, text-above, text-below}
-use Rattle.lines.proofs.Buffers.{put-twice}
 use Rattle.lines.proofs.decimal.put_number.Statement.{statement}
 use Rattle.lines.proofs.decimal.put_number.Tie as tie
 

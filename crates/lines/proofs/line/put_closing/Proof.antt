@@ -6,7 +6,8 @@ use lib.ListN.{length}
 use Rattle.lines.specs.Decimal.{decimalOf}
 use Rattle.lines.specs.Line.{closingOf}
 use Rattle.lines.proofs.Decimals.{decimal-le}
-use Rattle.lines.proofs.Buffers.{put-twice, put-behind}
+use Rattle.digits.proofs.Puts.{put-twice}
+use Rattle.lines.proofs.Buffers.{put-behind}
 use Rattle.lines.proofs.line.put_closing.Statement.{statement}
 use Rattle.lines.proofs.line.put_closing.Tie as tie
 

@@ -4,7 +4,7 @@ use native.Mathlib.Omega.{arith}
 use borrow.Author.Needs.{needs}
 use denote.Ref.{now}
 use lib.ListN.{length}
-use Rattle.lines.proofs.Buffers.{put-twice}
+use Rattle.digits.proofs.Puts.{put-twice}
 use Rattle.lines.proofs.line.put_named.Statement.{statement}
 use Rattle.lines.proofs.line.put_named.Tie as tie
 

@@ -4,7 +4,8 @@ use native.Mathlib.Omega.{arith}
 use borrow.Author.Needs.{needs}
 use lib.ListN.{length}
 use Rattle.lines.specs.Line.{lineOf}
-use Rattle.lines.proofs.Buffers.{put-twice, put-behind, put-number}
+use Rattle.digits.proofs.Puts.{put-twice}
+use Rattle.lines.proofs.Buffers.{put-behind, put-number}
 use Rattle.lines.proofs.line.put_pair.Statement.{statement}
 use Rattle.lines.proofs.line.put_pair.Tie as tie
 

@@ -1,0 +1,4 @@
+pub mod Numbers
+pub mod Parts
+pub mod Returning
+pub mod Words

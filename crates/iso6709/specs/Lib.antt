@@ -1,0 +1,4 @@
+pub mod Part
+pub mod Numbers
+pub mod Refusal
+pub mod Answer
