@@ -1,13 +1,12 @@
 /* `library KIND NAME BOUND` prints four ratios, PROJ's time to ours, for the kind that PROJ calls NAME: forward, inverse,
  * forward_degrees, inverse_degrees. The two sides take turns on the same points, and the best turn of each counts. Their
  * places may be BOUND map units apart. */
-#define _POSIX_C_SOURCE 199309L
 #include <math.h>
 #include <stdio.h>
 #include <stdlib.h>
 #include <string.h>
-#include <time.h>
 
+#include "measure.h"
 #include "ours.h"
 #include "theirs.h"
 
@@ -37,20 +36,6 @@ static struct task tasks[TASKS] = {
     {degrees_forward, theirs_forward, points.radians, INFINITY, INFINITY},
     {degrees_inverse, theirs_inverse, points.float_place, INFINITY, INFINITY},
 };
-
-/* Processor time of this program, so that others on the machine count less. */
-static double seconds(void) {
-    struct timespec now;
-    clock_gettime(CLOCK_PROCESS_CPUTIME_ID, &now);
-    return (double)now.tv_sec + (double)now.tv_nsec * 1e-9;
-}
-
-static void expect(int holds, const char *what) {
-    if (!holds) {
-        fprintf(stderr, "bench: %s\n", what);
-        exit(1);
-    }
-}
 
 /* A turn of each side. */
 static void turn(struct task *task, PJ *projection) {

@@ -1,7 +1,8 @@
 /*
  * Calls every function of the C interface on seeded random input, with each lent piece of memory between two pages that
  * may be neither read nor written, so that a byte too far ends the run. It holds the answers to what must be so of every
- * call: a refusal leaves what was lent as it was, a moved record is accepted again, and a session's counts add up.
+ * call: a refusal leaves what was lent as it was, a moved record is accepted again, a session's counts add up, and a text
+ * and its position come back as they were.
  */
 #include <stdio.h>
 #include <stdlib.h>
@@ -15,13 +16,17 @@
 #define LONGEST 40
 
 /* The statuses that a call may have, a bit for each: of positions as numbers and as floats, of two pieces that are not both of
- * 16 bytes, of a record, and of one that is fed to a session. */
+ * 16 bytes, of a record, and of one that is fed to a session; of a position that is written as text, of a piece for it that is
+ * not of 22 bytes, and of a text that is read. */
 enum {
     NUMBERS = 1 << 0 | 1 << 1 | 1 << 3 | 1 << 4 | 1 << 5,
     FLOATS = NUMBERS | 1 << 2,
     PIECES = 1 << 8,
     RECORD = NUMBERS | 1 << 6 | 1 << 7 | 1 << 9 | 1 << 10,
     FED = RECORD | 1 << 11,
+    WRITTEN = 1 << 0 | 1 << 4 | 1 << 5,
+    TEXT_PIECE = 1 << 12,
+    READ = WRITTEN | 1 << 13 | 1 << 14 | 1 << 15,
 };
 
 static size_t page;
@@ -47,7 +52,7 @@ static void hold(int fact, const char *what) {
 }
 
 static void hold_status(uint8_t status, int allowed) {
-    hold(status <= 11 && (allowed >> status & 1) != 0, "a status that the call does not have");
+    hold(status <= 15 && (allowed >> status & 1) != 0, "a status that the call does not have");
 }
 
 /* Refusal 1 comes before all others of a call on numbers or floats. */
@@ -130,6 +135,70 @@ static void call_feed(uint64_t *counts, uint8_t *in, uint8_t *out) {
     hold((status == 11) == (length == ULDASEONG_RECORD && moved + refused >= 1000000000), "a full session");
 }
 
+/* Mostly that of a text, and else short, or anything up to a page. */
+static size_t text_length(void) {
+    if (random_below(8) != 0)
+        return ULDASEONG_TEXT;
+    return random_below(16) ? random_below(LONGEST + 1) : random_below((uint32_t)page + 1);
+}
+
+/* Holds that of a page, as it was before a call, nothing changed but a piece. */
+static void hold_rest(const uint8_t *guard, const uint8_t *before, const void *piece, size_t length) {
+    size_t at = (size_t)((const uint8_t *)piece - guard), end = at + length;
+    hold(memcmp(guard, before, at) == 0 && memcmp(guard + end, before + end, page - end) == 0,
+         "a call on text changed what it was not to change");
+}
+
+/* Answers the status' bit. */
+static int call_read_text(uint8_t *in, uint8_t *out, uint8_t *in_before, uint8_t *out_before) {
+    size_t length = text_length();
+    uint8_t *text = lend(in, length), again[ULDASEONG_TEXT];
+    int32_t *pair = lend(out, 8);
+    random_text(text, length);
+    memcpy(in_before, in, page);
+    memcpy(out_before, out, page);
+    uint8_t status = uldaseong_read_text(text, length, pair);
+    hold_status(status, length == ULDASEONG_TEXT ? READ : TEXT_PIECE);
+    hold_rest(in, in_before, text, 0);
+    hold_rest(out, out_before, pair, status == 0 ? 8 : 0);
+    if (status == 0) {
+        hold(uldaseong_write_text(pair[0], pair[1], again, sizeof again) == 0, "a position that was read is refused");
+        hold(memcmp(again, text, sizeof again) == 0, "a text comes back as another one");
+    }
+    return 1 << status;
+}
+
+/* Answers the status' bit. */
+static int call_write_text(uint8_t *out, uint8_t *before) {
+    size_t length = text_length();
+    uint8_t *text = lend(out, length);
+    int32_t longitude = random_angle(64800000), latitude = random_angle(32400000), pair[2];
+    memcpy(before, out, page);
+    uint8_t status = uldaseong_write_text(longitude, latitude, text, length);
+    hold_status(status, length == ULDASEONG_TEXT ? WRITTEN : TEXT_PIECE);
+    hold_rest(out, before, text, status == 0 ? length : 0);
+    if (status == 0) {
+        hold(uldaseong_read_text(text, length, pair) == 0, "a text that was written is refused");
+        hold(pair[0] == longitude && pair[1] == latitude, "a position comes back as another one");
+    }
+    return 1 << status;
+}
+
+/* Every status is to be seen: some texts are accepted, and some refused by each number. */
+static void call_texts(long rounds, uint8_t *in, uint8_t *out) {
+    uint8_t *in_before = malloc(page), *out_before = malloc(page);
+    int read = 0, written = 0;
+    hold(in_before != NULL && out_before != NULL, "memory for two pages");
+    for (long i = 0; i < rounds; i++) {
+        read |= call_read_text(in, out, in_before, out_before);
+        written |= call_write_text(out, out_before);
+    }
+    hold(read == (READ | TEXT_PIECE), "a status that no text had that was read");
+    hold(written == (WRITTEN | TEXT_PIECE), "a status that no position had that was written");
+    free(in_before);
+    free(out_before);
+}
+
 int main(int count, char **words) {
     long rounds = count > 1 ? atol(words[1]) : 1000000;
     page = (size_t)sysconf(_SC_PAGESIZE);
@@ -145,5 +214,6 @@ int main(int count, char **words) {
         call_feed(counts, in, out);
     }
     hold(rounds > 0 && counts[0] + counts[1] == 1000000000, "a session that is full in the end");
+    call_texts(rounds, in, out);
     return 0;
 }

@@ -1,5 +1,5 @@
-//! Document 01's rules and document 02's order 5 once more, with no code of the product, and inputs for both: at every edge,
-//! and at random from a seed.
+//! Document 01's rules and document 02's orders 1 and 5 once more, with no code of the product, and inputs for them: at every
+//! edge, and at random from a seed.
 pub mod arcminutes;
 pub mod edges;
 pub mod float;
@@ -17,11 +17,17 @@ pub mod session;
 pub mod sine;
 pub mod stations;
 pub mod table;
+pub mod text;
+pub mod text_cases;
+pub mod text_random;
+pub mod text_request;
+pub mod text_requests;
 pub mod wide;
 
-/// Stops where the second program has something else than document 01's table and its record, or another sine.
+/// Stops where the second program has something else than document 01's table and its record, another sine, or another text.
 pub fn check() {
     sine::check();
     table::check();
     record::check();
+    text::check();
 }

@@ -1,4 +1,4 @@
-//! The second program: document 01's rules and document 02's order 5 once more, with no code of the product. `second
+//! The second program: document 01's rules and document 02's orders 1 and 5 once more, with no code of the product. `second
 //! requests` writes requests for the program `query`, and `second answers` reads such requests and writes what is to be
 //! answered. `second random SEED ROUNDS` writes more requests on floats than the stored ones.
 //!
@@ -8,6 +8,7 @@
 use second::map::Answer;
 use second::request::{bits, Request};
 use second::requests::texts;
+use second::text_request::TextRequest;
 use second::{float_random, record_cases, record_random, requests, session, stations};
 use std::io::{self, Read, Write};
 
@@ -16,7 +17,7 @@ fn main() -> io::Result<()> {
     let mut out = io::stdout().lock();
     let words: Vec<String> = std::env::args().skip(1).collect();
     match words.iter().map(String::as_str).collect::<Vec<_>>()[..] {
-        ["requests"] => out.write_all(requests::all().as_bytes()),
+        ["requests"] => out.write_all(&requests::all()),
         ["answers"] => {
             let mut text = Vec::new();
             io::stdin().read_to_end(&mut text)?;
@@ -52,14 +53,15 @@ fn answers(text: &[u8]) -> String {
         return String::new();
     }
     let text = text.strip_suffix(b"\n").unwrap_or(text);
-    let lines = text
-        .split(|byte| *byte == b'\n')
-        .map(String::from_utf8_lossy);
-    lines.map(|line| answer(&line) + "\n").collect()
+    let lines = text.split(|byte| *byte == b'\n');
+    lines.map(|line| answer(line) + "\n").collect()
 }
 
-fn answer(line: &str) -> String {
-    let Some(request) = Request::read(line) else {
+fn answer(line: &[u8]) -> String {
+    if let Some(request) = TextRequest::read(line) {
+        return request.answer();
+    }
+    let Some(request) = Request::read(&String::from_utf8_lossy(line)) else {
         return "unreadable".to_string();
     };
     match request.answer() {

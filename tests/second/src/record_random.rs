@@ -1,7 +1,7 @@
 //! Records at random, from a seed: good ones, moved ones, ones near to a limit and damaged ones.
 use crate::map::{row_latitude, row_width, row_y, HALF_TURN, RIGHT_ANGLE};
 use crate::record::{record, Record, LENGTH, PLACE, POSITION};
-use crate::requests::{next, seeded, within};
+use crate::requests::{below, seeded, within};
 use crate::table::{row_of, Row, KINDS};
 use std::io::{self, BufWriter, Write};
 
@@ -50,8 +50,7 @@ impl Chance {
     }
 
     pub fn below(&mut self, limit: u64) -> u64 {
-        // the low digits of a step are alike from one step to the next
-        (next(&mut self.state) >> 20) % limit
+        below(&mut self.state, limit)
     }
 
     fn within(&mut self, limit: i128) -> i128 {

@@ -83,13 +83,16 @@ impl fmt::Display for Request {
 }
 
 /// What is read of some words, if each can be read and they are as many as are asked for.
-fn all<T, const COUNT: usize>(words: &[&str], read: fn(&str) -> Option<T>) -> Option<[T; COUNT]> {
+pub fn all<T, const COUNT: usize>(
+    words: &[&str],
+    read: fn(&str) -> Option<T>,
+) -> Option<[T; COUNT]> {
     let values: Option<Vec<T>> = words.iter().copied().map(read).collect();
     values?.try_into().ok()
 }
 
 /// A whole number in decimal, or one far past every range where it has too many digits.
-fn whole(word: &str) -> Option<i128> {
+pub fn whole(word: &str) -> Option<i128> {
     let (sign, digits) = match word.strip_prefix('-') {
         Some(digits) => (-1, digits),
         None => (1, word),

@@ -1,4 +1,4 @@
-//! Requests over every kind and every edge that document 01 names, and some thousand at random from a fixed seed.
+//! Requests over every kind and every edge that document 01 names, on text, and some thousand at random from a fixed seed.
 use crate::arcminutes;
 use crate::edges;
 use crate::float_requests;
@@ -6,10 +6,11 @@ use crate::map::{row_latitude, row_width, row_y};
 use crate::map::{HALF_TURN, RIGHT_ANGLE};
 use crate::request::Request;
 use crate::table::{row_of, KINDS};
+use crate::text_requests;
 
 pub const DEGREE: i128 = 60 * 60 * 100;
 
-pub fn all() -> String {
+pub fn all() -> Vec<u8> {
     let mut requests = edges::widths();
     requests.extend(edges::positions());
     requests.extend(edges::places());
@@ -21,9 +22,11 @@ pub fn all() -> String {
     lines.extend(DOCUMENT.map(String::from));
     lines.extend(ODD.map(String::from));
     lines.extend(float_requests::all());
+    let mut lines: Vec<Vec<u8>> = lines.into_iter().map(String::into_bytes).collect();
+    lines.extend(text_requests::all());
     // the last line has no end of its own
-    lines.push(width(2, 72 * DEGREE).to_string());
-    lines.join("\n")
+    lines.push(width(2, 72 * DEGREE).to_string().into_bytes());
+    lines.join(&b'\n')
 }
 
 /// The lines of some requests.
@@ -148,6 +151,12 @@ const ODD: [&str; 31] = [
     "w 1 -170141183460469231731687303715884105728",
     "f 1 0 999999999999999999999999999999999999999999999999999999999999 0",
 ];
+
+/// A number below a limit.
+pub fn below(state: &mut u64, limit: u64) -> u64 {
+    // the low digits of a step are alike from one step to the next
+    (next(state) >> 20) % limit
+}
 
 /// A number from -limit to limit.
 pub fn within(state: &mut u64, limit: i128) -> i128 {

@@ -1,28 +1,34 @@
-//! What is lent to a call on a record: a session's counts, the input and the output.
+//! Pieces of bytes as calls are lent them, and what is lent to a call on a record: a session's counts, the input and the output.
 use crate::part::Part;
 use std::fmt;
 
-/// The longest piece.
+/// The longest piece, but for the texts that are read.
 pub const LONGEST: usize = 40;
 
 /// A piece of bytes at some place of its own memory, with at least eight bytes before it and behind it.
 #[derive(Clone, PartialEq)]
 pub struct Piece {
-    memory: [u8; 64],
+    memory: Vec<u8>,
     at: usize,
     length: usize,
 }
 
 impl Piece {
     /// Any bytes at any place.
-    fn any(part: &mut Part, length: usize) -> Piece {
-        assert!(length <= LONGEST, "a piece of {length} bytes");
-        let mut memory = [0; 64];
+    pub fn any(part: &mut Part, length: usize) -> Piece {
+        let mut memory = vec![0; 8 * (length.div_ceil(8) + 3)];
         for word in memory.chunks_mut(8) {
             word.copy_from_slice(&part.word().to_le_bytes());
         }
         let at = 8 + (part.word() >> 20) as usize % 8;
         Piece { memory, at, length }
+    }
+
+    /// These bytes at any place.
+    pub fn of(part: &mut Part, bytes: &[u8]) -> Piece {
+        let mut piece = Piece::any(part, bytes.len());
+        piece.put(bytes);
+        piece
     }
 
     pub fn bytes(&self) -> &[u8] {
@@ -34,7 +40,7 @@ impl Piece {
         self.memory[self.at..self.at + self.length].copy_from_slice(bytes);
     }
 
-    fn lend(&mut self) -> (*mut u8, usize) {
+    pub fn lend(&mut self) -> (*mut u8, usize) {
         (self.memory.as_mut_ptr().wrapping_add(self.at), self.length)
     }
 }
@@ -63,8 +69,7 @@ pub struct Lent {
 impl Lent {
     pub fn new(part: &mut Part, counts: [u64; 2], bytes: &[u8], room: usize) -> Lent {
         let counts = [part.word(), counts[0], counts[1], part.word()];
-        let mut input = Piece::any(part, bytes.len());
-        input.put(bytes);
+        let input = Piece::of(part, bytes);
         let output = Piece::any(part, room);
         Lent {
             counts,

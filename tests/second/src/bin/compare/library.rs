@@ -1,6 +1,6 @@
 //! The functions of include/uldaseong.h, each made safe to call: a pointer is to borrowed memory, as long as the function may
 //! take it to be. What is lent lies inside more memory of the comparison's own, so that a write out of place is seen.
-use crate::lent::Lent;
+use crate::lent::{Lent, Piece};
 
 extern "C" {
     fn uldaseong_forward(
@@ -32,6 +32,9 @@ extern "C" {
         output: *mut u8,
         output_length: usize,
     ) -> u8;
+    fn uldaseong_read_text(text: *const u8, text_length: usize, position: *mut i32) -> u8;
+    fn uldaseong_write_text(longitude: i32, latitude: i32, text: *mut u8, text_length: usize)
+        -> u8;
 }
 
 /// The two words between the first and the last of four.
@@ -68,4 +71,14 @@ pub fn feed(lent: &mut Lent) -> u8 {
     let counts = middle(&mut lent.counts);
     let [(input, input_length), (output, output_length)] = lent.pieces();
     unsafe { uldaseong_feed(counts, input, input_length, output, output_length) }
+}
+
+pub fn read_text(text: &mut Piece, lent: &mut [i32; 4]) -> u8 {
+    let (text, text_length) = text.lend();
+    unsafe { uldaseong_read_text(text, text_length, middle(lent)) }
+}
+
+pub fn write_text([longitude, latitude]: [i32; 2], text: &mut Piece) -> u8 {
+    let (text, text_length) = text.lend();
+    unsafe { uldaseong_write_text(longitude, latitude, text, text_length) }
 }

@@ -13,6 +13,8 @@ mod record_calls;
 mod record_inputs;
 mod records;
 mod sessions;
+mod text_calls;
+mod texts;
 
 use part::Part;
 use std::process::ExitCode;
@@ -20,7 +22,7 @@ use std::process::ExitCode;
 /// A part's name, its comparison from a seed, and every number that is to be given: 0 and the refusals.
 type Named = (&'static str, fn(&mut Part, u64), &'static [u8]);
 
-const PARTS: [Named; 12] = [
+const PARTS: [Named; 15] = [
     ("forward on numbers", numbers::forward, &[0, 1, 3, 4, 5]),
     ("inverse on numbers", numbers::inverse, &[0, 1, 3, 6, 7]),
     ("numbers handed on", numbers::handed_on, &[0]),
@@ -32,6 +34,9 @@ const PARTS: [Named; 12] = [
     ("records handed on", records::handed_on, &[0]),
     ("sessions about full", sessions::about_full, &CAPPED),
     ("runs of a session", sessions::runs, &CAPPED),
+    ("text written", texts::written, &[0, 4, 5, 12]),
+    ("text read", texts::read, &[0, 4, 5, 12, 13, 14, 15]),
+    ("text handed on", texts::handed_on, &[0]),
     ("program convert", program::convert, &UNCAPPED),
 ];
 

@@ -66,7 +66,9 @@ pub fn handed_on(part: &mut Part, seed: u64) {
 /// The requests of the stored run of `query`.
 pub fn stored() -> impl Iterator<Item = Request> {
     let requests = requests::all();
-    let read: Vec<Request> = requests.split('\n').filter_map(Request::read).collect();
+    let lines = requests.split(|byte| *byte == b'\n');
+    let lines = lines.filter_map(|line| std::str::from_utf8(line).ok());
+    let read: Vec<Request> = lines.filter_map(Request::read).collect();
     read.into_iter()
 }
 

@@ -98,7 +98,7 @@ impl<T: Number> Call<T> {
 }
 
 /// The pair between two bars.
-fn text<T: Number>(lent: [T; 4]) -> String {
+pub fn text<T: Number>(lent: [T; 4]) -> String {
     let [before, first, second, behind] = lent.map(T::text);
     format!("{before}|{first} {second}|{behind}")
 }
