@@ -1,61 +1,90 @@
-// A request's answer.
-use super::line::Line;
-use super::number::Number;
-use super::values::float;
-use super::values::narrow;
-use super::values::narrow_kind;
+// Answers to requests, written on standard output.
+use super::request::Request;
+use super::text::Text;
 use super::writing::write_answer;
 use super::writing::write_place;
 use super::writing::write_position;
+use super::writing::write_text_answer;
 use super::writing::write_width;
 use degrees::Degrees;
 use degrees::forward_degrees;
 use degrees::inverse_degrees;
+use iso6709::read_text;
+use iso6709::write_text;
 use libc::STDOUT_FILENO;
 use parallel::half_width;
+use projection::Answer;
 use projection::forward;
 use projection::inverse;
+use shape::SIZE;
 
-// Answers a line that has ended.
-pub(crate) fn answer(line: Line) {
-    let numbers = line.numbers;
-    let kind = narrow_kind(numbers[0]);
-    let first = narrow(numbers[1]);
-    let second = narrow(numbers[2]);
-    let third = narrow(numbers[3]);
-    match line.request() {
-        b'w' => {
-            write_width(half_width(kind, first));
-        }
-        b'f' => {
-            write_answer(forward(kind, first, second, third));
-        }
-        b'i' => {
-            write_answer(inverse(kind, first, second, third));
-        }
-        b'F' => {
-            answer_position(kind, numbers[1], numbers[2], numbers[3]);
-        }
-        b'I' => {
-            answer_place(kind, numbers[1], numbers[2], numbers[3]);
-        }
-        _ => {
-            io::write_all(STDOUT_FILENO, b"unreadable");
-        }
-    }
+// Answers the request of a line with this text, by a line.
+pub(crate) fn answer(request: Request, text: Text) {
+    answer_request(request, text);
     io::write_all(STDOUT_FILENO, b"\n");
 }
 
+fn answer_request(request: Request, text: Text) {
+    match request {
+        Request::Width(kind, latitude) => {
+            write_width(half_width(kind, latitude));
+        }
+        Request::Forward(kind, central, longitude, latitude) => {
+            write_answer(forward(kind, central, longitude, latitude));
+        }
+        Request::Inverse(kind, central, x, y) => {
+            write_answer(inverse(kind, central, x, y));
+        }
+        Request::ForwardDegrees(kind, central, longitude, latitude) => {
+            answer_position(kind, central, longitude, latitude);
+        }
+        Request::InverseDegrees(kind, central, x, y) => {
+            answer_place(kind, central, x, y);
+        }
+        Request::ReadText => {
+            answer_text(text);
+        }
+        Request::WriteText(longitude, latitude) => {
+            answer_by_text(longitude, latitude);
+        }
+        Request::Unreadable => {
+            io::write_all(STDOUT_FILENO, b"unreadable");
+        }
+    }
+}
+
 // Answers a position in degrees.
-fn answer_position(kind: u8, central: Number, longitude: Number, latitude: Number) {
+fn answer_position(kind: u8, central: f64, longitude: f64, latitude: f64) {
     let at = Degrees {
-        longitude: float(longitude),
-        latitude: float(latitude),
+        longitude,
+        latitude,
     };
-    write_place(forward_degrees(kind, float(central), at));
+    write_place(forward_degrees(kind, central, at));
 }
 
 // Answers a place in floats.
-fn answer_place(kind: u8, central: Number, x: Number, y: Number) {
-    write_position(inverse_degrees(kind, float(central), float(x), float(y)));
+fn answer_place(kind: u8, central: f64, x: f64, y: f64) {
+    write_position(inverse_degrees(kind, central, x, y));
+}
+
+// Answers a text.
+fn answer_text(text: Text) {
+    let bytes = text.bytes;
+    write_answer(read_front(&bytes, text.count));
+}
+
+// The position of the text that so many of the bytes are, or all where there are fewer.
+fn read_front(bytes: &[u8], count: usize) -> Answer {
+    if count < bytes.len() {
+        read_text(&bytes[..count])
+    } else {
+        read_text(bytes)
+    }
+}
+
+// Answers a position by its text.
+fn answer_by_text(longitude: i32, latitude: i32) {
+    let mut text = [0; SIZE];
+    let answer = write_text(longitude, latitude, &mut text);
+    write_text_answer(answer, &text);
 }

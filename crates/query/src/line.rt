@@ -1,8 +1,13 @@
-// A line of the input, read a byte at a time: a letter, then numbers with spaces between them.
+// A line of the input, read a byte at a time: a letter, then numbers with spaces between them, or a space and a text.
 use super::number::Number;
+use super::request::Request;
+use super::text::Text;
 
 // The letter of a line that has no byte yet: no line holds it.
 pub const NONE: u8 = b'\n';
+
+// The letter of a line that has a text.
+const TEXT: u8 = b'p';
 
 // The most numbers that a request has.
 const MOST: usize = 4;
@@ -15,6 +20,7 @@ pub struct Line {
     pub number: Number,
     // Whether the numbers so far can begin a request's.
     pub good: bool,
+    pub text: Text,
 }
 
 impl Line {
@@ -25,6 +31,7 @@ impl Line {
             count: 0,
             number: Number::new(),
             good: true,
+            text: Text::new(),
         }
     }
 
@@ -33,6 +40,9 @@ impl Line {
         if self.letter == NONE {
             self.letter = byte;
             return self;
+        }
+        if self.letter == TEXT {
+            return self.with_text_byte(byte);
         }
         if byte == b' ' {
             return self.with_end();
@@ -43,8 +53,16 @@ impl Line {
         self
     }
 
+    // The line with one byte more of its text.
+    fn with_text_byte(mut self, byte: u8) -> Line {
+        let text = self.text;
+        let longer = text.with_byte(byte);
+        self.text = longer;
+        self
+    }
+
     // The line with the number that is being read, if there is one, among its numbers.
-    pub(crate) fn with_end(mut self) -> Line {
+    fn with_end(mut self) -> Line {
         let number = self.number;
         if !number.begun {
             return self;
@@ -70,13 +88,27 @@ impl Line {
         }
     }
 
-    // The letter of an ended line that has as many numbers as that letter asks for, or else NONE.
-    pub(crate) fn request(self) -> u8 {
-        let asked: usize = if self.letter == b'w' { 2 } else { MOST };
-        if self.good && self.count == asked {
-            self.letter
-        } else {
-            NONE
+    // The request of the line, which has ended.
+    pub(crate) fn request(self) -> Request {
+        let line = self.with_end();
+        let letter = line.letter;
+        if !line.good || line.count != asked(letter) {
+            return Request::Unreadable;
         }
+        if letter == TEXT {
+            let text = line.text;
+            return Request::of_text(text.good);
+        }
+        let numbers = line.numbers;
+        Request::of_numbers(letter, numbers[0], numbers[1], numbers[2], numbers[3])
+    }
+}
+
+// How many numbers a letter asks for.
+fn asked(letter: u8) -> usize {
+    match letter {
+        TEXT => 0,
+        b't' | b'w' => 2,
+        _ => MOST,
     }
 }

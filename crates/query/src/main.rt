@@ -1,11 +1,14 @@
 // Answers requests from standard input on standard output, a line for each: 'w KIND LATITUDE' by the half-width of a
 // parallel, 'f KIND CENTRAL LONGITUDE LATITUDE' by the place's x and y, 'i KIND CENTRAL X Y' by the position's longitude and
-// latitude, or by 'refused' and the number; any other line by 'unreadable'. Angles are in hundredths of an arcsecond;
-// CENTRAL is the central meridian. 'F' and 'I' ask the same as 'f' and 'i' on floats, in degrees; a float is given and
-// answered by its 64 bits, an 'x' and hexadecimal digits. All other numbers are decimal.
+// latitude, 't LONGITUDE LATITUDE' by the position's text, 'p TEXT' by the text's longitude and latitude, or by 'refused' and
+// the number; any other line by 'unreadable'. Angles are in hundredths of an arcsecond; CENTRAL is the central meridian. 'F'
+// and 'I' ask the same as 'f' and 'i' on floats, in degrees; a float is given and answered by its 64 bits, an 'x' and
+// hexadecimal digits. All other numbers are decimal. TEXT is all that stands behind 'p' and one space.
 mod answers;
 mod line;
 mod number;
+mod request;
+mod text;
 mod values;
 mod writing;
 
@@ -32,7 +35,7 @@ fn main() {
         turns = if n == 0 { 0 } else { turns - 1 };
     }
     if line.letter != NONE {
-        answer(line.with_end());
+        answer_line(line);
     }
 }
 
@@ -42,11 +45,17 @@ fn answer_all(line: Line, bytes: &[u8]) -> Line {
     for i in 0..bytes.len() {
         let byte = bytes[i];
         if byte == b'\n' {
-            answer(line.with_end());
+            answer_line(line);
             line = Line::new();
         } else {
             line = line.with_byte(byte);
         }
     }
     line
+}
+
+// Answers a line that has ended.
+fn answer_line(line: Line) {
+    let text = line.text;
+    answer(line.request(), text);
 }

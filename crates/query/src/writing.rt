@@ -3,6 +3,7 @@ ghost use Rattle.degrees.specs.Answer.{meaning, degreesMeaning};
 ghost use Rattle.query.specs.Floats.{HasBits, HaveBits};
 use degrees::DegreesAnswer;
 use degrees::FloatAnswer;
+use iso6709::TextAnswer;
 use libc::STDOUT_FILENO;
 use parallel::Width;
 use projection::Answer;
@@ -53,6 +54,18 @@ pub(crate) fn write_position(answer: DegreesAnswer)
             write_floats(at.longitude, at.latitude);
         }
         DegreesAnswer::Refused(n) => {
+            write_refusal(n);
+        }
+    }
+}
+
+// Writes a text, unless it is refused.
+pub(crate) fn write_text_answer(answer: TextAnswer, text: &[u8]) {
+    match answer {
+        TextAnswer::Written => {
+            io::write_all(STDOUT_FILENO, text);
+        }
+        TextAnswer::Refused(n) => {
             write_refusal(n);
         }
     }

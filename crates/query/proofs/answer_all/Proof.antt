@@ -42,7 +42,6 @@ answer-all-spec =
     (λ c κs. search needs)
     (λ c κs. search needs)
     (λ c κs. search needs)
-    (λ c κs. search needs)
     add-i
     loop-less
     loop-again

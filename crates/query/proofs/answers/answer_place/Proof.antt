@@ -10,6 +10,4 @@ write-position-requires : tie.Need-write-position-requires
 write-position-requires c κs = subst HaveBits (sym (c .inverse-degrees .ensures)) (inverse-bits _ _ _ _)
 
 pub answer-place-spec : {M : Type 1} → statement M
-answer-place-spec =
-    tie.close
-    (tie.spec (λ c κs. search needs) (λ c κs. search needs) (λ c κs. search needs) (λ c κs. search needs) write-position-requires (λ c. search needs))
+answer-place-spec = tie.close (tie.spec (λ c κs. search needs) write-position-requires (λ c. search needs))

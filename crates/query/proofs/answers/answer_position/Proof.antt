@@ -10,6 +10,4 @@ write-place-requires : tie.Need-write-place-requires
 write-place-requires c κs = subst HaveBits (sym (c .forward-degrees .ensures)) (forward-bits _ _ _ _)
 
 pub answer-position-spec : {M : Type 1} → statement M
-answer-position-spec =
-    tie.close
-    (tie.spec (λ c κs. search needs) (λ c κs. search needs) (λ c κs. search needs) (λ c κs. search needs) write-place-requires (λ c. search needs))
+answer-position-spec = tie.close (tie.spec (λ c κs. search needs) write-place-requires (λ c. search needs))
