@@ -15,9 +15,9 @@ use Rattle.whole.proofs.Tests.{both}
 use Rattle.angle.specs.Sexagesimal.{signedOf, belowSixty}
 use Rattle.parallel.specs.Refusal.{given, unless}
 use Rattle.digits.specs.Digits.{lastDigits, valueFrom}
-use Rattle.shape.specs.Shape.{point, slash, isSign, shape, stand}
-use Rattle.shape.proofs.Standing.{long, may}
-use Rattle.shape.proofs.Words.{sign-is, digits-stand, stands-so}
+use Rattle.shape.specs.Shape.{slash, shape, stand}
+use Rattle.shape.proofs.Standing.{long}
+use Rattle.shape.proofs.Words.{sign-is, signs-at, points-at, slash-at, digits-stand, stands-so}
 use Rattle.iso6709.specs.Part.{partAt, partOf}
 use Rattle.iso6709.specs.Refusal.{badLength, badShape, badSixties, isMinusZero, badZero}
 use Rattle.iso6709.specs.Answer.{latitudeIn, longitudeIn, readOrder, bothOf, textOf, writeOrder, readOf, writeOf}
@@ -35,18 +35,6 @@ text-examples = record { read-so = refl; written-so = refl }
 
 -- ---- what the refusals of a text mean
 
-sign-at : (text : List ℕ) → stand shape text ≡ true → (isSign (getD text 0 0) ≡ true) × (isSign (getD text 10 0) ≡ true)
-unfolding shape
-sign-at text st = (may text st 0 (omega arith), may text st 10 (omega arith))
-
-points-at : (text : List ℕ) → stand shape text ≡ true → (getD text 7 0 ≡ point) × (getD text 18 0 ≡ point)
-unfolding shape
-points-at text st = (eqb-true (getD text 7 0) point (may text st 7 (omega arith)), eqb-true (getD text 18 0) point (may text st 18 (omega arith)))
-
-slash-at : (text : List ℕ) → stand shape text ≡ true → getD text 21 0 ≡ slash
-unfolding shape
-slash-at text st = eqb-true (getD text 21 0) slash (may text st 21 (omega arith))
-
 by-12 : (n : ℕ) → (badLength n .applies ≡ true) ↔ (n ≢ 22)
 by-12 n = (λ e. eqb-false n 22 (not-true (eqb n 22) e), λ h. rw (ne-eqb n 22 h))
 
@@ -57,9 +45,9 @@ by-13 text n = (there, back)
     there e =
         let st = not-false (stand shape text) e in
         record {
-          first-sign = sign-is (getD text 0 0) (sign-at text st .0);
+          first-sign = sign-is (getD text 0 0) (signs-at text st .0);
           first-point = points-at text st .0;
-          second-sign = sign-is (getD text 10 0) (sign-at text st .1);
+          second-sign = sign-is (getD text 10 0) (signs-at text st .1);
           second-point = points-at text st .1;
           slash = slash-at text st;
           digits = digits-stand text st;

@@ -1,19 +1,22 @@
--- Text put into a buffer: a byte, the text of a part, one text behind another.
+-- Text put into a buffer: a byte, the digits of a number, one text behind another.
 use mathlib.Core.Path.{_≡_, refl, sym, ap, _∙_, subst}
 use mathlib.Core.List.{List, [], _∷_, _++_, append-nil, append-assoc}
 use Prim.Native.Nat.{ℕ, _+_, _-_, _≤_, _<_}
 use native.Mathlib.Numerals.{add-one}
 use native.Mathlib.Omega.{arith}
+use borrow.Rule.Slice.PartMut.{mid-len}
 use lib.ListN.{length, take, drop, set, length-append, length-drop, drop-of-length-le}
 use lib.Seq.{take-at, length-take-le, drop-append-add, drop-drop, set-split}
+use Rattle.digits.specs.Digits.{lastDigits}
 use Rattle.digits.specs.Put.{putAt, Put}
+use Rattle.digits.proofs.Values.{last-length}
 
 pub put-byte : (l : List ℕ) (at byte : ℕ) → at < length l → Put l at (byte ∷ []) (at + 1) (set l at byte)
 unfolding putAt
 put-byte l at byte h = record { behind = refl; holds = rw (add-one at) (set-split l at byte h) }
 
 -- a part of a buffer, of the text's length, in whose place the text stands
-pub put-part : (l text : List ℕ) (at count : ℕ) → length text ≡ count →
+put-part : (l text : List ℕ) (at count : ℕ) → length text ≡ count →
     Put l at text (at + count) (take at l ++ (text ++ drop (at + count - at) (drop at l)))
 unfolding putAt
 put-part l text at count e =
@@ -22,6 +25,15 @@ put-part l text at count e =
       behind = ap (λ (k : ℕ). at + k) (sym e);
       holds = rw (d, drop-drop (length text) at l);
     }
+
+-- a part of a buffer that is filled with digits
+pub put-digits : (l part : List ℕ) (at count n : ℕ) → at + count ≤ length l →
+    part ≡ lastDigits (length (take (at + count - at) (drop at l))) n →
+    Put l at (lastDigits count n) (at + count) (take at l ++ (part ++ drop (at + count - at) (drop at l)))
+put-digits l part at count n h p =
+    let d : at + count - at ≡ count = omega arith in
+    let t : part ≡ lastDigits count n = p ∙ rw (mid-len at (at + count) l h, d) in
+    rw t (put-part l (lastDigits count n) at count (last-length count n))
 
 drop-past : (p q : List ℕ) (m n : ℕ) → length p ≡ m → drop (m + n) (p ++ q) ≡ drop n q
 drop-past p q m n e = subst (λ (k : ℕ). drop (k + n) (p ++ q) ≡ drop n q) e (drop-append-add p q n)

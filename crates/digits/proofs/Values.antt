@@ -26,6 +26,9 @@ digit-in d l u = rw (le-leb nought d l) (le-leb d nine u)
 
 -- ---- the last digits
 
+pub last-digit : (n : ℕ) → isDigit (nought + n % 10) ≡ true
+last-digit n = digit-in (nought + n % 10) (omega arith) (omega arith)
+
 pub last-length : (k n : ℕ) → length (lastDigits k n) ≡ k
 unfolding lastDigits
 last-length zero n = refl
@@ -40,7 +43,7 @@ pub last-are-digits : (k n : ℕ) → AllDigits (lastDigits k n)
 unfolding lastDigits
 last-are-digits zero n = tt
 last-are-digits (suc k) n =
-    digits-behind (lastDigits k (n / 10)) (nought + n % 10) (last-are-digits k (n / 10)) (digit-in (nought + n % 10) (omega arith) (omega arith))
+    digits-behind (lastDigits k (n / 10)) (nought + n % 10) (last-are-digits k (n / 10)) (last-digit n)
 
 -- ---- the number
 

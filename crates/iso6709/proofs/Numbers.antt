@@ -31,15 +31,8 @@ pub bytes-listed : (text : List ℕ) (at count : ℕ) → at + count ≤ length 
 bytes-listed text at zero h = refl
 bytes-listed text at (suc count) h = rw (drop-cons text at 0 (omega arith)) (ap (λ (l : List ℕ). getD text at 0 ∷ l) (bytes-listed text (suc at) count (omega arith)))
 
--- digits at a place and those that follow it
-abbrev Digits : List ℕ → ℕ → ℕ → Type 0
-Digits text at zero = Unit {0}
-Digits text at (suc count) = (isDigit (getD text at 0) ≡ true) × Digits text (suc at) count
-
-digits-at : (text : List ℕ) (at count : ℕ) → at + count ≤ length text → Digits text at count → AllDigits (bytesAt text at count)
-digits-at text at zero h d = tt
-digits-at text at (suc count) h d =
-    rw (drop-cons text at 0 (omega arith)) (d .0, digits-at text (suc at) count (omega arith) (d .1))
+digits-at : (text : List ℕ) (at count : ℕ) → at + count ≤ length text → AllDigits (listed text at count) → AllDigits (bytesAt text at count)
+digits-at text at count h d = rw (bytes-listed text at count h) d
 
 module _ (text : List ℕ) (st : stand shape text ≡ true) where
   -- two digits that stand at places of digits

@@ -2,7 +2,7 @@
 use mathlib.Core.Path.{_≡_, refl, sym, ap, ap₂, _∙_}
 use mathlib.Core.Bool.{Bool, true, false, cond, true≢false, false≢true}
 use mathlib.Core.List.{List}
-use Prim.Native.Nat.{ℕ, zero, suc, _+_, _%_, _^_, _≤_, _<_}
+use Prim.Native.Nat.{ℕ, zero, suc, _+_, _^_, _≤_, _<_}
 use native.Mathlib.Omega.{arith}
 use borrow.Author.Tests.{eqb-true, ne-eqb, ltb-false, le-ltb, not-false}
 use lib.Dec.{eqb}
@@ -14,8 +14,8 @@ use Rattle.whole.specs.Signed.{splitOf, withSign, joinOf}
 use Rattle.whole.proofs.Signs.{join-split}
 use Rattle.whole.proofs.Tests.{both}
 use Rattle.angle.specs.Angle.{N, H}
-use Rattle.digits.specs.Digits.{nought, isDigit, AllDigits, lastDigits, valueOf}
-use Rattle.digits.proofs.Values.{digit-in, value-last, last-value}
+use Rattle.digits.specs.Digits.{AllDigits, lastDigits, valueOf}
+use Rattle.digits.proofs.Values.{last-digit, value-last, last-value}
 use Rattle.parallel.specs.Refusal.{given, unless, badLatitude}
 use Rattle.parallel.proofs.Orders.{Passes, passes, all-pass}
 use Rattle.projection.specs.Refusal.{badLongitude}
@@ -23,11 +23,12 @@ use Rattle.angle.specs.declared.sexagesimal.Sexagesimal.{Sexagesimal}
 use Rattle.angle.specs.Sexagesimal.{sexagesimalOf, signedOf, belowSixty}
 use Rattle.angle.proofs.Judged.{size-is}
 use Rattle.angle.proofs.Sexagesimals.{signed-back, sexagesimal-back, sixty-below}
-use Rattle.shape.specs.Shape.{plus, minus, point, slash, isSign, shape, stand, size}
+use Rattle.shape.specs.Shape.{plus, minus, isSign, shape, stand, size}
 use Rattle.iso6709.specs.Part.{bytesAt, partAt, signOf, partOf}
 use Rattle.iso6709.specs.Refusal.{badLength, badShape, badSixties, isMinusZero, badZero}
 use Rattle.iso6709.specs.Answer.{latitudeIn, longitudeIn, positionOf, anglesOf, bothOf, textOf, readOf, writeOf}
-use Rattle.shape.proofs.Standing.{long, may}
+use Rattle.shape.proofs.Standing.{long}
+use Rattle.shape.proofs.Words.{signs-at, points-at, slash-at}
 use Rattle.iso6709.proofs.Numbers.{listed, bytes-listed, bytes-long, has-latitude, has-longitude, narrow}
 
 -- ---- sign and size, degrees and minutes
@@ -51,16 +52,13 @@ split-good (negsuc n) = ne-eqb (suc n) 0 (λ e. omega arith)
 
 -- ---- a position's text
 
-digit-mod : (n : ℕ) → isDigit (nought + n % 10) ≡ true
-digit-mod n = digit-in (nought + n % 10) (omega arith) (omega arith)
-
 sign-stands : (b : Bool) → isSign (signOf b) ≡ true
 sign-stands true = refl
 sign-stands false = refl
 
 both-stand : (longitude latitude : Sexagesimal) → stand shape (bothOf longitude latitude) ≡ true
 unfolding shape stand bothOf partOf lastDigits
-both-stand longitude latitude = rw (sign-stands (longitude .negative), sign-stands (latitude .negative)) (simp digit-mod)
+both-stand longitude latitude = rw (sign-stands (longitude .negative), sign-stands (latitude .negative)) (simp last-digit)
 
 sign-back : (b : Bool) → eqb (signOf b) minus ≡ b
 sign-back true = refl
@@ -152,14 +150,11 @@ module _ (text : List ℕ) (st : stand shape text ≡ true) where
       lastDigits count (valueOf (bytesAt text at count)) ≡ listed text at count
   again at count h a = digits-again text at count (rw (long text st) h) a
 
-  -- the text byte by byte, with its points and its slash
+  -- the text byte by byte
   whole : listed text 0 22 ≡ text
   whole =
       let h : 22 ≤ length text = omega (arith, long text st) in
       sym (bytes-listed text 0 22 h) ∙ take-all 22 text (omega (arith, long text st))
-
-  is : (i byte : ℕ) → eqb (getD text i 0) byte ≡ true → getD text i 0 ≡ byte
-  is i byte m = eqb-true (getD text i 0) byte m
 
   both-again : bothOf (longitudeIn text) (latitudeIn text) ≡ text
   unfolding shape bothOf partAt partOf
@@ -175,11 +170,10 @@ module _ (text : List ℕ) (st : stand shape text ≡ true) where
         again 14 2 (omega arith) (e .minutes),
         again 16 2 (omega arith) (e .seconds),
         again 19 2 (omega arith) (e .hundredths),
-        sign-again (getD text 0 0) (may text st 0 (omega arith)),
-        sign-again (getD text 10 0) (may text st 10 (omega arith)),
+        sign-again (getD text 0 0) (signs-at text st .0),
+        sign-again (getD text 10 0) (signs-at text st .1),
       )
-      (rw (is 7 point (may text st 7 (omega arith)), is 18 point (may text st 18 (omega arith)), is 21 slash (may text st 21 (omega arith)))
-      at whole)
+      (rw (points-at text st .0, points-at text st .1, slash-at text st) at whole)
 
 -- the angle of a number that is no minus zero, and whose minutes and seconds are below 60, is the one that was read
 angle-again : (z : ℤ) (t : Sexagesimal) → joinOf (signedOf t) ≡ z → isMinusZero (signedOf t) ≡ false → belowSixty t ≡ true →

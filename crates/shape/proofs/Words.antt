@@ -41,7 +41,19 @@ equal i j = go (eqb i j) refl
     go true e = inl (eqb-true i j e)
     go false e = inr (eqb-false i j e)
 
--- the digits of a text of the shape
+-- the signs, points, slash and digits of a text of the shape
+pub signs-at : (text : List ℕ) → stand shape text ≡ true → (isSign (getD text 0 0) ≡ true) × (isSign (getD text 10 0) ≡ true)
+unfolding shape
+signs-at text st = (may text st 0 (omega arith), may text st 10 (omega arith))
+
+pub points-at : (text : List ℕ) → stand shape text ≡ true → (getD text 7 0 ≡ point) × (getD text 18 0 ≡ point)
+unfolding shape
+points-at text st = (eqb-true (getD text 7 0) point (may text st 7 (omega arith)), eqb-true (getD text 18 0) point (may text st 18 (omega arith)))
+
+pub slash-at : (text : List ℕ) → stand shape text ≡ true → getD text 21 0 ≡ slash
+unfolding shape
+slash-at text st = eqb-true (getD text 21 0) slash (may text st 21 (omega arith))
+
 pub digits-stand : (text : List ℕ) → stand shape text ≡ true → (i : ℕ) → i < 22 → i ≢ 0 → i ≢ 7 → i ≢ 10 → i ≢ 18 → i ≢ 21 →
     (nought ≤ getD text i 0) × (getD text i 0 ≤ nine)
 digits-stand text st i h n0 n7 n10 n18 n21 =

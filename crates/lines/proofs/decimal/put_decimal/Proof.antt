@@ -1,15 +1,13 @@
 -- `lines::decimal::put_decimal` meets its contract: the digits put are all that the number has.
-use mathlib.Core.Path.{_≡_, _∙_}
+use mathlib.Core.Path.{_≡_, ap, _∙_}
 use mathlib.Core.List.{List, _++_}
 use Prim.Native.Nat.{ℕ, _+_, _-_, _≤_}
-use native.Mathlib.Omega.{arith}
 use borrow.Author.Needs.{needs}
-use borrow.Rule.Slice.PartMut.{mid-len}
 use denote.Ref.{now}
 use lib.ListN.{length, take, drop}
 use Rattle.digits.specs.Digits.{lastDigits}
 use Rattle.digits.specs.Put.{Put}
-use Rattle.digits.proofs.Puts.{put-part}
+use Rattle.digits.proofs.Puts.{put-digits}
 use Rattle.lines.specs.Decimal.{decimalOf}
 use Rattle.lines.proofs.Decimals.{last-digits}
 use Rattle.lines.proofs.decimal.put_decimal.Statement.{statement}
@@ -19,9 +17,8 @@ all-digits : (l part : List ℕ) (at count n : ℕ) → count ≡ length (decima
     part ≡ lastDigits (length (take (at + count - at) (drop at l))) n →
     Put l at (decimalOf n) (at + count) (take at l ++ (part ++ drop (at + count - at) (drop at l)))
 all-digits l part at count n e h p =
-    let d : at + count - at ≡ count = omega arith in
-    let t : part ≡ decimalOf n = p ∙ rw (mid-len at (at + count) l h, d, e) (last-digits n) in
-    rw t (put-part l (decimalOf n) at count (omega arith))
+    let t : lastDigits count n ≡ decimalOf n = ap (λ (k : ℕ). lastDigits k n) e ∙ last-digits n in
+    rw t at (put-digits l part at count n h p)
 
 -- the digits fit
 room : (c : tie.After-width) → c .before .before .args .at + c .width .result ≤ length (now (c .before .before .args .text))
