@@ -17,3 +17,7 @@ pub mod Pieces
 pub mod Records
 pub mod Statuses
 pub mod Texts
+pub mod Reprojections
+pub mod Following
+pub mod ReprojectedRuns
+pub mod Exchanges

@@ -9,7 +9,6 @@ use borrow.Author.Tests.{eqb-true, eqb-false, eq-eqb}
 use lib.Dec.{eqb}
 use lib.IntN.{ℤ, natAbs}
 use lib.ListN.{length, getD, take}
-use lib.Seq.{getD-take}
 use mir.Syntax.{w32}
 use mir.Val.{SFits}
 use Rattle.whole.proofs.Signs.{fits}
@@ -22,7 +21,7 @@ use Rattle.record.specs.Record.{size, mark, position, place, otherForm, recordO
 use Rattle.record.specs.Refusal.{bothOfSize}
 use Rattle.record.specs.Answer.{judgedOf, outputAfter}
 use Rattle.record.proofs.Orders.{judged-9, judged-10, judged-position, judged-place, mark-bytes, sizes, written}
-use Rattle.record.proofs.Stored.{central-in, first-in, second-in, position-read, place-read}
+use Rattle.record.proofs.Stored.{byte-same, central-in, first-in, second-in, position-read, place-read}
 use Rattle.claims.specs.Demand3.{Demand3, numbers, Alike, TurnedX, TurnedY, SamePosition, ClosePlace, Shares}
 use Rattle.claims.specs.RecordLaws.{RecordCall, SameHead, TurnedEast, TurnedNorth, withLongitude, OtherLongitude, FedAgain, SharedRecord, RecordLaws}
 use Rattle.claims.proofs.Accepted as Accepted
@@ -32,17 +31,17 @@ use Rattle.claims.proofs.Pieces.{Answers, both-refused, converted-as, a
 -- ---- pieces with the same head
 
 module _ (s t : List ℕ) (h : SameHead s t) where
-  byte-same : (i : ℕ) → i < 4 → getD t i 0 ≡ getD s i 0
-  byte-same i l = sym (getD-take 4 t i 0 l) ∙ ap (λ (x : List ℕ). getD x i 0) (h .head-same) ∙ getD-take 4 s i 0 l
+  head-byte : (i : ℕ) → i < 4 → getD t i 0 ≡ getD s i 0
+  head-byte = byte-same 4 s t (h .head-same)
 
   mark-same : hasMark t ≡ hasMark s
-  mark-same = rw (byte-same 0 (omega arith), byte-same 1 (omega arith))
+  mark-same = rw (head-byte 0 (omega arith), head-byte 1 (omega arith))
 
   kind-same : kindIn t ≡ kindIn s
-  kind-same = byte-same 2 (omega arith)
+  kind-same = head-byte 2 (omega arith)
 
   form-same : formIn t ≡ formIn s
-  form-same = byte-same 3 (omega arith)
+  form-same = head-byte 3 (omega arith)
 
   -- positions that are answered alike are records that are judged alike
   judged-alike : (R : ℤ × ℤ → ℤ × ℤ → Type 0) → formIn s ≢ place →
@@ -89,7 +88,7 @@ four-bytes : (s : List ℕ) → 4 ≤ length s → hasMark s ≡ true → formIn
 four-bytes s h m f = let b = mark-bytes s m in four s h ∙ rw (b .0, b .1, f)
 
 -- numbers up to 5 N fit 32 bits
-in-32 : (z : ℤ) → natAbs z ≤ 5 * N → SFits w32 z
+pub in-32 : (z : ℤ) → natAbs z ≤ 5 * N → SFits w32 z
 in-32 z h = fits w32 z (omega arith)
 
 -- ---- a moved record fed on

@@ -16,3 +16,7 @@ pub mod HouseSine
 pub mod CosineKinds
 pub mod Texts
 pub mod TextExamples
+pub mod Exchange
+pub mod Reprojection
+pub mod ReprojectionExamples
+pub mod ReprojectedRuns

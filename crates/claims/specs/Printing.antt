@@ -1,12 +1,12 @@
--- What the program prints of an input: that of the whole input, whatever pieces it comes in, or where a read or a write fails the
--- lines of whole records alone; in text that is what it should be.
+-- What the program `convert` prints of an input: that of the whole input, whatever pieces it comes in, or where a read or a write fails
+-- the lines of whole records alone; in text that is what it should be.
 use mathlib.Core.List.{List, [], _∷_, _++_}
 use mathlib.Core.Path.{_≡_}
 use Prim.Native.Nat.{ℕ}
 use Rattle.lines.specs.Decimal.{DecimalText}
 use Rattle.report.specs.Block.{SessionsCompose, LinesCompose}
 use Rattle.report.specs.Program.{printedOf, ReadsDoNotMatter, TailRefused, SessionOfHistory}
-use Rattle.stream.specs.declared.job.Job.{Job}
+use Rattle.jobs.specs.declared.Job.{Job}
 use Rattle.stream.specs.Run.{RunsWrite, RunsEnd}
 use Rattle.claims.specs.RecordExample.{input}
 
@@ -29,7 +29,8 @@ pub record Printing : Type 0 where
   pub lines : LinesCompose
   -- however the reads cut the input, the output is that of the whole input
   pub reads : ReadsDoNotMatter
-  -- what a run has written by its phase, whatever its reads and writes come to: only one that ended has written the last line
+  -- what a run of any job has written by its phase, whatever its reads and writes come to: only one that ended has written what the
+  -- job makes of the whole input, `convert`'s last line with it
   pub runs : RunsWrite
   -- and a run whose reads and writes go well ends with its input
   pub runs-end : (job : Job) → RunsEnd job

@@ -3,10 +3,14 @@ ghost use Rattle.claims.specs.Arithmetic.{Arithmetic};
 ghost use Rattle.claims.specs.CosineKinds.{CosineKinds};
 ghost use Rattle.claims.specs.Demands.{Demands};
 ghost use Rattle.claims.specs.Examples.{Examples};
+ghost use Rattle.claims.specs.Exchange.{Exchange};
 ghost use Rattle.claims.specs.HouseSine.{HouseSine};
 ghost use Rattle.claims.specs.Interface.{Interface};
 ghost use Rattle.claims.specs.Printing.{Printing};
 ghost use Rattle.claims.specs.RecordExample.{RecordExample};
+ghost use Rattle.claims.specs.ReprojectedRuns.{ReprojectedRuns};
+ghost use Rattle.claims.specs.Reprojection.{Reprojection};
+ghost use Rattle.claims.specs.ReprojectionExamples.{ReprojectionExamples};
 ghost use Rattle.claims.specs.Sharp.{Sharp};
 ghost use Rattle.claims.specs.TextExamples.{TextExamples};
 ghost use Rattle.claims.specs.Texts.{Texts};
@@ -14,5 +18,5 @@ ghost use Rattle.claims.specs.Written.{Written};
 
 // Does nothing. Its `ensures` is the product of all claims.
 pub fn hold()
-    ensures { λ _. ⌜ Demands × Sharp × Examples × RecordExample × Arithmetic × HouseSine × CosineKinds × Written × Printing × Interface × Texts × TextExamples ⌝ }
+    ensures { λ _. ⌜ Demands × Sharp × Examples × RecordExample × Arithmetic × HouseSine × CosineKinds × Written × Printing × Interface × Texts × TextExamples × Exchange × Reprojection × ReprojectionExamples × ReprojectedRuns ⌝ }
 {}

@@ -10,10 +10,10 @@ use lib.IntN.{ℤ, pos, negsuc}
 use lib.ListN.{length, drop, length-append}
 use Rattle.libc.specs.Io.{Moved}
 use Rattle.record.specs.Record.{size}
-use Rattle.lines.specs.Buffer.{putFront}
+use Rattle.digits.specs.Put.{putAt, Put}
 use Rattle.lines.specs.Line.{lineRoom}
 use Rattle.report.specs.Program.{endRoom}
-use Rattle.stream.specs.declared.job.Job.{Job}
+use Rattle.jobs.specs.declared.Job.{Job}
 use Rattle.stream.specs.declared.state.Phase.{Phase}
 use Rattle.stream.specs.declared.state.Phase.the-variants.{Reading, Ended, NotStarted, NotRead, NotWritten}
 use Rattle.stream.specs.declared.state.State.{State}
@@ -21,7 +21,7 @@ use Rattle.stream.specs.declared.state.Got.{Got}
 use Rattle.stream.specs.declared.state.Got.the-variants.{Bytes, End, Interrupted, Failed}
 use Rattle.stream.specs.declared.step.Step.{Step}
 use Rattle.stream.specs.Run.{Standing, Turn, turned, goOn, afterRead, afterWrite}
-use Rattle.stream.specs.Step.{eintr, gotOf, gotByError, bytesOf, withRoom, readIn, standing, writeAfter, Holds, Follows, FollowsBy}
+use Rattle.stream.specs.Step.{eintr, gotOf, gotByError, bytesOf, withRoom, readIn, standing, writeAfter, Follows, FollowsBy}
 use Rattle.stream.proofs.Steps.{write-stands, write-held, few-after}
 use Rattle.filter.specs.Turns.{records, most, Room, TurnsBy, leftIn}
 
@@ -54,9 +54,9 @@ with-room answer error held buffer text m h b t =
     rw (le-leb (held + n) buffer (omega arith), le-leb (lineRoom * ((held + n) / size)) text l, le-leb endRoom text (omega arith))
 
 -- what is offered stands in the text
-pub offered-there : {o text text′ : List ℕ} {n : ℕ} → Holds o text n text′ → n ≤ length text′
-unfolding putFront
-offered-there {o} {text} {text′} {n} h = let l = length-append o (drop (length o) text) in rw (h .holds) (omega (arith, h .counted))
+pub offered-there : {o text text′ : List ℕ} {n : ℕ} → Put text 0 o n text′ → n ≤ length text′
+unfolding putAt
+offered-there {o} {text} {text′} {n} h = let l = length-append o (drop (0 + length o) text) in rw (h .holds) (omega (arith, h .behind))
 
 -- ---- a turn
 

@@ -5,7 +5,7 @@ use Prim.Native.Nat.{ℕ, _+_, _*_, _<_}
 use lib.ListN.{length}
 use Rattle.record.specs.Record.{size}
 use Rattle.lines.specs.Line.{lineRoom}
-use Rattle.stream.specs.declared.job.Job.{Job}
+use Rattle.jobs.specs.declared.Job.{Job}
 use Rattle.stream.specs.declared.state.Phase.{Phase}
 use Rattle.stream.specs.declared.state.Phase.the-variants.{Reading, Ended, NotStarted, NotRead, NotWritten}
 use Rattle.stream.specs.declared.state.State.{State}

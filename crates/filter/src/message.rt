@@ -1,9 +1,9 @@
 // What is said on standard error.
+use jobs::Job;
 use libc::STDERR_FILENO;
 use lines::Text;
 use messages::has_error;
 use messages::message;
-use stream::Job;
 use stream::Phase;
 
 // Says why a run stopped. The text of an error stands behind it, and is taken before anything is written.

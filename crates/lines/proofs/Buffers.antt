@@ -52,6 +52,22 @@ placed {text = text} {end} e p =
     let n : end ≡ length text = p .behind ∙ zero-add (length text) in
     record { counted = rw (e, n); holds = rw e (p .holds ∙ rw (zero-add (length text))) }
 
+-- text that stands at the front is put at place 0
+pub front-put : (l text : List ℕ) {l′ : List ℕ} {end : ℕ} → end ≡ length text → l′ ≡ putFront l text → Put l 0 text end l′
+unfolding putAt putFront
+front-put l text e h =
+    let z : 0 + length text ≡ length text = zero-add (length text) in
+    record { behind = e ∙ sym z; holds = h ∙ ap (λ (n : ℕ). text ++ drop n l) (sym z) }
+
+-- what `bytes::copy` copies stands at the front, and is put there
+pub copied : (l text : List ℕ) {l′ : List ℕ} → l′ ≡ take (length text) text ++ drop (length text) l → l′ ≡ putFront l text
+unfolding putFront
+copied l text e = rw (take-length text) at e
+
+pub copied-put : (l text : List ℕ) {l′ : List ℕ} {end : ℕ} → end ≡ length text →
+    l′ ≡ take (length text) text ++ drop (length text) l → Put l 0 text end l′
+copied-put l text n e = front-put l text n (copied l text e)
+
 pub too-short : {l text : List ℕ} {fits : Bool} → fits ≡ false → Placed fits text l TooShort l
 too-short e = record { counted = rw e; holds = rw e }
 

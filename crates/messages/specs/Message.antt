@@ -3,18 +3,27 @@ use mathlib.Core.Bool.{Bool, true, false}
 use mathlib.Core.List.{List, [], _∷_, _++_}
 use Prim.Native.Nat.{ℕ}
 use Rattle.lines.specs.Line.{lineFeed}
-use Rattle.stream.specs.declared.job.Job.{Job}
-use Rattle.stream.specs.declared.job.Job.the-variants.{Convert}
+use Rattle.jobs.specs.declared.Job.{Job}
+use Rattle.jobs.specs.declared.Job.the-variants.{Convert, Reproject}
 use Rattle.stream.specs.declared.state.Phase.{Phase}
 use Rattle.stream.specs.declared.state.Phase.the-variants.{Reading, Ended, NotStarted, NotRead, NotWritten}
 
--- "convert: ", the name that a job goes by
+-- "convert: " and "reproject: ", the names that the jobs go by
 abbrev pub convertName : List ℕ
 convertName =
     99 ∷ 111 ∷ 110 ∷ 118 ∷ 101 ∷ 114 ∷ 116 ∷ 58 ∷ 32 ∷ []
 
-abbrev pub nameOf : Job → List ℕ
+abbrev pub reprojectName : List ℕ
+reprojectName =
+    114 ∷ 101 ∷ 112 ∷ 114 ∷ 111 ∷ 106 ∷ 101 ∷ 99 ∷ 116 ∷ 58 ∷ 32 ∷ []
+
+unfoldable pub nameOf : Job → List ℕ
 nameOf Convert = convertName
+nameOf Reproject = reprojectName
+
+-- the room of the longest
+abbrev pub nameRoom : ℕ
+nameRoom = 11
 
 -- "standard input" and "standard output"
 abbrev pub standardInput : List ℕ
@@ -38,9 +47,9 @@ takesNone =
 
 -- what is said where a run stops in a phase; behind NotRead and NotWritten comes the text of the error
 unfoldable pub messageOf : Job → Phase → List ℕ
-messageOf job Reading = nameOf job ++ standardInput ++ tooManyReads ++ lineFeed
+messageOf job Reading = nameOf job ++ (standardInput ++ tooManyReads ++ lineFeed)
 messageOf job Ended = []
-messageOf job NotStarted = nameOf job ++ takesNone ++ standardInput ++ lineFeed
+messageOf job NotStarted = nameOf job ++ (takesNone ++ standardInput ++ lineFeed)
 messageOf job NotRead = nameOf job ++ standardInput
 messageOf job NotWritten = nameOf job ++ standardOutput
 

@@ -1,13 +1,15 @@
 // What a program says on standard error where its run stops.
 ghost use mathlib.Core.Path.{_≡_};
-ghost use Prim.Native.Nat.{_≤_};
+ghost use mathlib.Core.Bool.{true};
+ghost use mathlib.Core.List.{_++_};
+ghost use Prim.Native.Nat.{_+_, _≤_};
 ghost use lib.Dec.{leb};
 ghost use lib.ListN.{length};
+ghost use Rattle.digits.specs.Put.{Put};
 ghost use Rattle.lines.specs.Buffer.{Placed};
-ghost use Rattle.stream.specs.Step.{Holds};
-ghost use Rattle.messages.specs.Message.{messageOf, messageRoom, hasError};
+ghost use Rattle.messages.specs.Message.{nameOf, nameRoom, messageOf, messageRoom, hasError};
+use jobs::Job;
 use lines::Text;
-use stream::Job;
 use stream::Phase;
 
 // The room for a message.
@@ -20,8 +22,12 @@ pub fn message(job: Job, phase: Phase, text: &mut [u8]) -> Text
     if text.len() < MESSAGE_ROOM {
         return Text::TooShort;
     }
-    match job {
-        Job::Convert => Text::Bytes(convert_message(phase, text)),
+    match phase {
+        Phase::Reading => named(job, b"standard input: too many reads\n", text),
+        Phase::Ended => Text::Bytes(0),
+        Phase::NotStarted => named(job, b"takes no arguments, and reads standard input\n", text),
+        Phase::NotRead => named(job, b"standard input", text),
+        Phase::NotWritten => named(job, b"standard output", text),
     }
 }
 
@@ -38,19 +44,24 @@ pub fn has_error(phase: Phase) -> bool
     }
 }
 
-// Puts what `convert` says at the front of a text with the room for it, and answers how many bytes that is.
-fn convert_message(phase: Phase, text: &mut [u8]) -> usize
-    requires { ⌜ messageRoom ≤ length (now text) ⌝ }
-    ensures { λ r. ⌜ Holds (messageOf Job.Convert phase) (now (text .entry)) r (now (text .exit)) ⌝ }
+// Puts the name that a job goes by, and words behind it, at the front of a text with the room for both.
+fn named(job: Job, words: &[u8], text: &mut [u8]) -> Text
+    requires { ⌜ nameRoom + length (now words) ≤ length (now text) ⌝ }
+    ensures { λ r. ⌜ Placed true (nameOf job ++ now (words .entry)) (now (text .entry)) r (now (text .exit)) ⌝ }
 {
-    match phase {
-        Phase::Reading => bytes::copy(b"convert: standard input: too many reads\n", text),
-        Phase::Ended => 0,
-        Phase::NotStarted => bytes::copy(
-            b"convert: takes no arguments, and reads standard input\n",
-            text,
-        ),
-        Phase::NotRead => bytes::copy(b"convert: standard input", text),
-        Phase::NotWritten => bytes::copy(b"convert: standard output", text),
+    let name = put_name(job, text);
+    let count = bytes::copy(words, &mut text[name..]);
+    Text::Bytes(name + count)
+}
+
+// Puts the name that a job goes by at the front of a text with the room for it, and answers how many bytes that is.
+fn put_name(job: Job, text: &mut [u8]) -> usize
+    requires { ⌜ nameRoom ≤ length (now text) ⌝ }
+    ensures { λ r. ⌜ Put (now (text .entry)) 0 (nameOf job) r (now (text .exit)) ⌝ }
+    ensures { λ r. ⌜ r ≤ nameRoom ⌝ }
+{
+    match job {
+        Job::Convert => bytes::copy(b"convert: ", text),
+        Job::Reproject => bytes::copy(b"reproject: ", text),
     }
 }

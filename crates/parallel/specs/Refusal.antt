@@ -29,6 +29,11 @@ abbrev pub onGiven : {A B : Type 0} → (A → B) → Outcome A → Outcome B
 onGiven f (given a) = given (f a)
 onGiven f (refused n) = refused n
 
+-- what is answered to what is given; a refusal stays
+abbrev pub andThen : {A B : Type 0} → (A → Outcome B) → Outcome A → Outcome B
+andThen f (given a) = f a
+andThen f (refused n) = refused n
+
 -- the first refusal that applies, or else a
 unfoldable pub unless : {A : Type 0} → List Refusal → A → Outcome A
 unless [] a = given a

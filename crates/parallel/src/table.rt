@@ -1,4 +1,5 @@
-// The table of the projections, a row for each kind: "the ten outlines" of document 01, the Sinusoidal and Eckert V.
+// The table of the projections, a row for each kind: "the ten outlines" of document 01, of which order 2 exchanged kinds 3 and 4, the
+// Sinusoidal and Eckert V.
 ghost use mathlib.Core.Path.{_≡_};
 ghost use lib.Dec.{T};
 ghost use Prim.Native.Nat.{_<_};
@@ -46,18 +47,18 @@ const ROWS: [Row; KINDS] = [
     },
     // 3: Putniņš P1
     Row {
-        kx: 297650196,
+        kx: 595300392,
         ky: 297650196,
-        a: 0,
+        a: -1,
         b: 2,
         e: -3,
         method: Method::Root,
     },
     // 4: Wagner VI
     Row {
-        kx: 595300392,
+        kx: 297650196,
         ky: 297650196,
-        a: -1,
+        a: 0,
         b: 2,
         e: -3,
         method: Method::Root,

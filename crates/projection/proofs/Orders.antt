@@ -9,7 +9,7 @@ use Rattle.parallel.specs.declared.table.Row.{Row}
 use Rattle.parallel.specs.Table.{rowOf}
 use Rattle.parallel.specs.Parallel.{halfWidth, height}
 use Rattle.parallel.specs.Latitude.{yOf, latitudeAt, widthAt}
-use Rattle.parallel.specs.Refusal.{Outcome, refused, given, onGiven, unless, badKind, badLatitude, badY}
+use Rattle.parallel.specs.Refusal.{Outcome, refused, given, onGiven, andThen, unless, badKind, badLatitude, badY}
 use Rattle.parallel.specs.Answer.{atLatitude, atY}
 use Rattle.parallel.proofs.Orders.{Applies, Passes, on-unless}
 use Rattle.projection.specs.Longitude.{differenceOf, longitudeOf}
@@ -25,10 +25,6 @@ placeOn central longitude p = (xOf (p .0) (differenceOf central longitude), p .1
 -- what a parallel that has this half-width and this latitude answers to x
 abbrev pub positionOn : ℤ → ℤ → ℕ × ℤ → Outcome (ℤ × ℤ)
 positionOn central x p = cond (outside (p .0) x) (refused 7) (given (longitudeOf central (differenceAt (p .0) x), p .1))
-
-abbrev pub andThen : {A B : Type 0} → (A → Outcome B) → Outcome A → Outcome B
-andThen f (given a) = f a
-andThen f (refused n) = refused n
 
 module _ (kind : ℕ) (central longitude latitude : ℤ) where
   pub forward-given : Passes (badKind kind) → Passes (badCentral central) → Passes (badLongitude longitude) →

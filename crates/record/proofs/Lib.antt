@@ -1,2 +1,3 @@
 pub mod Orders
+pub mod Records
 pub mod Stored

@@ -1,11 +1,11 @@
 -- A record's bytes: how they are written, and that what is written is read again.
 use mathlib.Core.List.{List, [], _∷_, _++_}
 use mathlib.Core.Path.{_≡_, refl, sym, ap, _∙_}
-use Prim.Native.Nat.{ℕ}
+use Prim.Native.Nat.{ℕ, _<_}
 use native.Mathlib.Omega.{arith}
 use lib.IntN.{ℤ}
-use lib.ListN.{length, set, drop, length-drop, drop-of-length-le}
-use lib.Seq.{sets-eq}
+use lib.ListN.{length, getD, set, take, drop, length-drop, drop-of-length-le}
+use lib.Seq.{getD-take, sets-eq}
 use mir.Syntax.{w32}
 use mir.Val.{SFits}
 use Rattle.projection.specs.Answer.{forwardOf, inverseOf}
@@ -14,6 +14,10 @@ use Rattle.little_endian.proofs.Numbers.{put-get, put-behind}
 use Rattle.record.specs.Record.{size, mark, position, place, recordOf, centralIn, firstIn, secondIn}
 use Rattle.record.specs.Answer.{judgedOf}
 use Rattle.record.proofs.Orders.{judged-position, judged-place}
+
+-- bytes that begin alike
+pub byte-same : (n : ℕ) (s r : List ℕ) → take n r ≡ take n s → (i : ℕ) → i < n → getD r i 0 ≡ getD s i 0
+byte-same n s r e i h = sym (getD-take n r i 0 h) ∙ ap (λ (l : List ℕ). getD l i 0) e ∙ getD-take n s i 0 h
 
 -- four bytes and three numbers stored into 16 bytes, one after the other
 pub stored : (l l₁ l₂ l₃ : List ℕ) (kind form : ℕ) (central first second : ℤ) → length l ≡ size →

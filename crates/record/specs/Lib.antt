@@ -1,3 +1,4 @@
 pub mod Record
+pub mod Records
 pub mod Refusal
 pub mod Answer

@@ -1,11 +1,11 @@
 -- The record of 16 bytes: the mark, kind, form, then three numbers of 32 bits: central meridian, and longitude and latitude
 -- or x and y. Byte places count from 0.
-use mathlib.Core.Bool.{Bool, false, cond}
+use mathlib.Core.Bool.{Bool, false, cond, _&&_}
 use mathlib.Core.List.{List, [], _∷_, _++_}
 use Prim.Native.Nat.{ℕ}
 use lib.Dec.{eqb}
 use lib.IntN.{ℤ}
-use lib.ListN.{getD}
+use lib.ListN.{length, getD}
 use Rattle.little_endian.specs.Number.{bytesOf, numberAt}
 
 -- the length of a record
@@ -50,6 +50,10 @@ firstIn bytes = numberAt bytes 8
 -- latitude or y
 abbrev pub secondIn : List ℕ → ℤ
 secondIn bytes = numberAt bytes 12
+
+-- a record of 16 bytes with the mark, which holds a place
+abbrev pub holdsPlace : List ℕ → Bool
+holdsPlace bytes = eqb (length bytes) size && hasMark bytes && eqb (formIn bytes) place
 
 -- a moved record keeps mark, kind and central meridian, and has the other form and the converted pair
 unfoldable pub movedOf : List ℕ → ℤ × ℤ → List ℕ

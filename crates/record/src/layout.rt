@@ -1,7 +1,7 @@
 // The layout of a record: which byte holds what.
 ghost use mathlib.Core.Path.{_≡_};
 ghost use lib.ListN.{length};
-ghost use Rattle.record.specs.Record.{size, otherForm, movedOf, hasMark};
+ghost use Rattle.record.specs.Record.{size, otherForm, movedOf, hasMark, holdsPlace};
 ghost use Rattle.record.specs.Refusal.{bothOfSize};
 use little_endian::get;
 use little_endian::put;
@@ -20,15 +20,15 @@ pub(crate) const POSITION: u8 = 0;
 pub(crate) const PLACE: u8 = 1;
 
 // Byte places: the mark stands at 0 and 1.
-pub(crate) const KIND: usize = 2;
+pub const KIND: usize = 2;
 
 pub(crate) const FORM: usize = 3;
 
-pub(crate) const CENTRAL: usize = 4;
+pub const CENTRAL: usize = 4;
 
-pub(crate) const FIRST: usize = 8;
+pub const FIRST: usize = 8;
 
-pub(crate) const SECOND: usize = 12;
+pub const SECOND: usize = 12;
 
 // Whether two pieces of these lengths are of a record's length.
 pub fn both_of_size(input: usize, output: usize) -> bool
@@ -43,6 +43,16 @@ pub(crate) fn has_mark(bytes: &[u8]) -> bool
     ensures { λ r. ⌜ r ≡ hasMark (now (bytes .entry)) ⌝ }
 {
     bytes[0] == MARK_0 && bytes[1] == MARK_1
+}
+
+// Whether a piece is a record of 16 bytes with the mark, which holds a place.
+pub fn holds_place(bytes: &[u8]) -> bool
+    ensures { λ r. ⌜ r ≡ holdsPlace (now (bytes .entry)) ⌝ }
+{
+    if bytes.len() != SIZE {
+        return false;
+    }
+    has_mark(bytes) && bytes[FORM] == PLACE
 }
 
 pub(crate) fn other_form(form: u8) -> u8

@@ -1,20 +1,21 @@
 -- The records of a run of bytes: one record more, and blocks one after the other.
-use mathlib.Core.Path.{_≡_, refl, sym, ap, _∙_}
+use mathlib.Core.Path.{_≡_, refl, sym, _∙_}
 use mathlib.Core.List.{List, append-assoc, append-nil}
-use Prim.Native.Nat.{ℕ, zero, suc, _+_, _-_, _*_, _<_}
+use Prim.Native.Nat.{ℕ, zero, suc, _+_, _<_}
 use native.Mathlib.Nat.{add-zero, add-suc, add-assoc, zero-add}
 use native.Mathlib.Numerals.{add-one}
 use native.Mathlib.Omega.{arith}
-use lib.ListN.{take, drop}
 use Rattle.projection.specs.Answer.{meaning}
 use Rattle.record.specs.Record.{size}
+use Rattle.record.specs.Records.{recordAt}
+use Rattle.record.proofs.Records.{piece, piece-is}
 use Rattle.session.specs.declared.Session.{Session}
 use Rattle.session.specs.declared.Fed.{Fed}
 use Rattle.session.specs.Session.{feedOf, sessionAfter}
 use Rattle.digits.specs.Put.{Put}
 use Rattle.lines.specs.Line.{lineOf}
 use Rattle.lines.proofs.Buffers.{put-none, put-behind}
-use Rattle.report.specs.Block.{recordAt, answerAt, sessionAt, linesOf, SessionsCompose, LinesCompose}
+use Rattle.report.specs.Block.{answerAt, sessionAt, linesOf, SessionsCompose, LinesCompose}
 
 -- ---- one record after the other
 
@@ -26,14 +27,6 @@ pub record Progress (t : Session) (s l : List ℕ) (i : ℕ) (state : Session) (
 pub no-records : (t : Session) (s l : List ℕ) → Progress t s l 0 t 0 l
 unfolding sessionAt linesOf
 no-records t s l = record { session = refl; lines = put-none l }
-
--- the bytes that are fed, as the code has them
-abbrev pub piece : List ℕ → ℕ → List ℕ
-piece s i = take (size * i + size - size * i) (drop (size * i) s)
-
-piece-is : (s : List ℕ) (i : ℕ) → piece s i ≡ recordAt s i
-unfolding recordAt
-piece-is s i = let e : size * i + size - size * i ≡ size = omega arith in ap (λ (k : ℕ). take k (drop (size * i) s)) e
 
 pub one-more : {t : Session} {s l : List ℕ} {i : ℕ} {state : Session} {end : ℕ} {l′ : List ℕ} {end′ : ℕ} {l″ : List ℕ} →
     Progress t s l i state end l′ → (fed : Fed) (room : ℕ) → room ≡ size → meaning (fed .answer) ≡ feedOf state (piece s i) room →

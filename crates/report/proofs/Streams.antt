@@ -1,21 +1,22 @@
 -- What the program prints: how reads add up, and what `last_lines` answers.
-use mathlib.Core.Path.{_≡_, refl, sym, ap, _∙_}
+use mathlib.Core.Path.{_≡_, refl, sym, ap}
 use mathlib.Core.List.{List, [], _∷_, _++_, append-assoc, append-nil}
-use Prim.Native.Nat.{ℕ, zero, suc, _+_, _-_, _*_, _<_}
+use Prim.Native.Nat.{ℕ, zero, suc, _+_, _<_}
 use native.Mathlib.Nat.{zero-add}
 use native.Mathlib.Omega.{arith}
 use borrow.Author.Tests.{ne-eqb}
-use lib.ListN.{length, take, drop, length-append, length-drop}
-use lib.Seq.{take-append-le, drop-append-le, drop-drop}
+use lib.ListN.{length}
 use Rattle.parallel.specs.Refusal.{unless}
 use Rattle.projection.specs.Answer.{meaning}
 use Rattle.record.specs.Record.{size}
+use Rattle.record.specs.Records.{recordAt, recordsIn, tailOf}
+use Rattle.record.proofs.Records.{tail-length, records-more, record-before, record-after, tail-more}
 use Rattle.session.specs.declared.Session.{Session}
 use Rattle.session.specs.declared.Fed.{Fed}
 use Rattle.session.specs.Session.{opened, feedOf, sessionAfter}
 use Rattle.session.specs.History.{sessionOf}
 use Rattle.lines.specs.Line.{lineOf, closingOf}
-use Rattle.report.specs.Block.{recordAt, answerAt, sessionAt, linesOf, recordsIn, tailOf, blockSession, blockLines}
+use Rattle.report.specs.Block.{answerAt, sessionAt, linesOf, blockSession, blockLines}
 use Rattle.report.specs.Program.{endOf, printedFrom, printedOf, printedBy, joined, ReadsDoNotMatter, TailRefused, callsOf, SessionOfHistory}
 use Rattle.report.proofs.Blocks.{sessions-compose, lines-compose, same-session, same-lines}
 
@@ -28,63 +29,33 @@ module _ (t : Session) (s more : List ℕ) where
   abbrev n : ℕ
   n = recordsIn (tailOf s ++ more)
 
-  pub tail-length : length (tailOf s) ≡ length s - size * k
-  unfolding tailOf
-  tail-length = length-drop (size * k) s
+  first-same : (i : ℕ) → i < k → recordAt (s ++ more) (0 + i) ≡ recordAt s (0 + i)
+  first-same i h = rw (zero-add i) (record-before s more i h)
 
-  -- the whole records of both
-  whole-is : recordsIn (s ++ more) ≡ k + n
-  whole-is =
-      let a = length-append s more in
-      let b = length-append (tailOf s) more in
-      let c = tail-length in
-      omega arith
-
-  -- what stands behind the first k records
-  behind-first : drop (size * k) (s ++ more) ≡ tailOf s ++ more
-  unfolding tailOf
-  behind-first = drop-append-le (size * k) s more (omega arith)
-
-  record-before : (i : ℕ) → i < k → recordAt (s ++ more) (0 + i) ≡ recordAt s (0 + i)
-  unfolding recordAt
-  record-before i h =
-      let e : drop (size * i) (s ++ more) ≡ drop (size * i) s ++ more = drop-append-le (size * i) s more (omega arith) in
-      rw (zero-add i, e) (take-append-le size (drop (size * i) s) more (simp length-drop (omega arith)))
-
-  later : (j : ℕ) → drop (size * (k + j)) (s ++ more) ≡ drop (size * j) (tailOf s ++ more)
-  later j =
-      let e : size * (k + j) ≡ size * k + size * j = omega arith in
-      rw e (sym (drop-drop (size * j) (size * k) (s ++ more)) ∙ ap (drop (size * j)) behind-first)
-
-  record-after : (i : ℕ) → i < n → recordAt (s ++ more) (0 + k + i) ≡ recordAt (tailOf s ++ more) (0 + i)
-  unfolding recordAt
-  record-after i h = rw (zero-add k, zero-add i, later i)
+  last-same : (i : ℕ) → i < n → recordAt (s ++ more) (0 + k + i) ≡ recordAt (tailOf s ++ more) (0 + i)
+  last-same i h = rw (zero-add k, zero-add i) (record-after s more i)
 
   session-first : sessionAt t (s ++ more) 0 k ≡ blockSession t s
   unfolding blockSession
-  session-first = same-session t (s ++ more) s 0 0 k record-before
+  session-first = same-session t (s ++ more) s 0 0 k first-same
 
   pub block-session : blockSession t (s ++ more) ≡ blockSession (blockSession t s) (tailOf s ++ more)
   unfolding blockSession
   block-session =
-      rw (whole-is, sessions-compose t (s ++ more) 0 k n, session-first)
-      (same-session (blockSession t s) (s ++ more) (tailOf s ++ more) (0 + k) 0 n record-after)
+      rw (records-more s more, sessions-compose t (s ++ more) 0 k n, session-first)
+      (same-session (blockSession t s) (s ++ more) (tailOf s ++ more) (0 + k) 0 n last-same)
 
   pub block-lines : blockLines t (s ++ more) ≡ blockLines t s ++ blockLines (blockSession t s) (tailOf s ++ more)
   unfolding blockLines
   block-lines =
-      rw (whole-is, lines-compose t (s ++ more) 0 k n, session-first, same-lines t (s ++ more) s 0 0 k record-before)
-      (ap (λ (l : List ℕ). linesOf t s 0 k ++ l) (same-lines (blockSession t s) (s ++ more) (tailOf s ++ more) (0 + k) 0 n record-after))
-
-  pub block-tail : tailOf (s ++ more) ≡ tailOf (tailOf s ++ more)
-  unfolding tailOf
-  block-tail = rw whole-is (later n)
+      rw (records-more s more, lines-compose t (s ++ more) 0 k n, session-first, same-lines t (s ++ more) s 0 0 k first-same)
+      (ap (λ (l : List ℕ). linesOf t s 0 k ++ l) (same-lines (blockSession t s) (s ++ more) (tailOf s ++ more) (0 + k) 0 n last-same))
 
   -- the lines of the first whole records, and then what is printed of the rest
   printed-split : printedFrom t (s ++ more) ≡ blockLines t s ++ printedFrom (blockSession t s) (tailOf s ++ more)
   unfolding printedFrom
   printed-split =
-      rw (block-lines, block-session, block-tail)
+      rw (block-lines, block-session, tail-more s more)
       (append-assoc (blockLines t s) (blockLines (blockSession t s) (tailOf s ++ more)) _)
 
 -- fewer bytes than a record are a tail
@@ -98,7 +69,7 @@ unfolding printedBy joined
 reads-from [] t rest h = rw (append-nil rest) (sym (printed-tail t rest h))
 reads-from (piece ∷ pieces) t rest h =
     let s : List ℕ = rest ++ piece in
-    let l = tail-length t s [] in
+    let l = tail-length s in
     rw (sym (append-assoc rest piece (joined pieces)), printed-split t s (joined pieces))
     (ap (λ (x : List ℕ). blockLines t s ++ x) (reads-from pieces (blockSession t s) (tailOf s) (omega arith)))
 

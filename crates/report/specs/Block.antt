@@ -2,21 +2,18 @@
 use mathlib.Core.Path.{_≡_}
 use mathlib.Core.Bool.{Bool, cond}
 use mathlib.Core.List.{List, [], _++_}
-use Prim.Native.Nat.{ℕ, zero, suc, _+_, _*_, _/_}
+use Prim.Native.Nat.{ℕ, zero, suc, _+_, _*_}
 use lib.Dec.{leb}
 use lib.IntN.{ℤ}
-use lib.ListN.{length, take, drop}
+use lib.ListN.{length}
 use Rattle.parallel.specs.Refusal.{Outcome}
 use Rattle.record.specs.Record.{size}
+use Rattle.record.specs.Records.{recordAt, recordsIn}
 use Rattle.session.specs.declared.Session.{Session}
 use Rattle.session.specs.Session.{feedOf, sessionAfter}
 use Rattle.lines.specs.Buffer.{Placed}
 use Rattle.lines.specs.Line.{lineOf, lineRoom}
 use Rattle.report.specs.declared.block.Block.{Block}
-
--- record number i, counted from 0
-unfoldable pub recordAt : List ℕ → ℕ → List ℕ
-recordAt s i = take size (drop (size * i) s)
 
 -- what a session answers to record number i; its output piece is as long as a record
 unfoldable pub answerAt : Session → List ℕ → ℕ → Outcome (ℤ × ℤ)
@@ -41,13 +38,6 @@ SessionsCompose =
 abbrev pub LinesCompose : Type 0
 LinesCompose =
     (t : Session) (s : List ℕ) (first a b : ℕ) → linesOf t s first (a + b) ≡ linesOf t s first a ++ linesOf (sessionAt t s first a) s (first + a) b
-
--- how many whole records s has, and the bytes behind the last of them
-abbrev pub recordsIn : List ℕ → ℕ
-recordsIn s = length s / size
-
-unfoldable pub tailOf : List ℕ → List ℕ
-tailOf s = drop (size * recordsIn s) s
 
 -- the session and the lines of all whole records
 unfoldable pub blockSession : Session → List ℕ → Session

@@ -1,15 +1,16 @@
--- What the program prints of its input, and how it comes to it by reads.
+-- What the program `convert` prints of its input, and how it comes to it by reads.
 use mathlib.Core.Path.{_≡_}
 use mathlib.Core.List.{List, [], _∷_, _++_}
 use Prim.Native.Nat.{ℕ, zero, suc, _+_, _<_}
 use lib.ListN.{length}
 use Rattle.parallel.specs.Refusal.{refused}
 use Rattle.record.specs.Record.{size}
+use Rattle.record.specs.Records.{recordAt, recordsIn, tailOf}
 use Rattle.session.specs.declared.Session.{Session}
 use Rattle.session.specs.Session.{opened, feedOf, sessionAfter}
 use Rattle.session.specs.History.{Call, sessionOf}
 use Rattle.lines.specs.Line.{lineOf, closingOf, lineRoom, closingRoom}
-use Rattle.report.specs.Block.{recordAt, recordsIn, tailOf, blockSession, blockLines}
+use Rattle.report.specs.Block.{blockSession, blockLines}
 
 -- the end: the line of a tail that is not empty, which the session answers, and the closing line
 unfoldable pub endOf : Session → List ℕ → List ℕ
@@ -24,7 +25,7 @@ endRoom = lineRoom + closingRoom
 unfoldable pub printedFrom : Session → List ℕ → List ℕ
 printedFrom t s = blockLines t s ++ endOf (blockSession t s) (tailOf s)
 
--- what the program prints of its whole input
+-- what it prints of its whole input
 unfoldable pub printedOf : List ℕ → List ℕ
 printedOf s = printedFrom opened s
 

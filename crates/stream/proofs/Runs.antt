@@ -5,32 +5,15 @@ use mathlib.Core.List.{List, [], _∷_, _++_, append-nil}
 use Prim.Native.Nat.{ℕ, _≤_, _<_}
 use borrow.Author.Tests.{le-leb, lt-leb}
 use lib.Dec.{leb}
-use Rattle.session.specs.declared.Session.{Session}
+use Rattle.record.specs.Records.{tailOf}
+use Rattle.record.proofs.Records.{tail-more}
 use Rattle.session.specs.Session.{opened}
-use Rattle.report.specs.Block.{tailOf, blockSession, blockLines, linesOf, sessionAt}
-use Rattle.report.specs.Program.{printedOf, printedFrom}
-use Rattle.report.proofs.Streams.{block-session, block-lines, block-tail}
-use Rattle.stream.specs.declared.job.Job.{Job}
-use Rattle.stream.specs.declared.job.Job.the-variants.{Convert}
+use Rattle.jobs.specs.declared.Job.{Job}
+use Rattle.jobs.specs.Job.{blockOf, sessionOf}
+use Rattle.jobs.proofs.Jobs.{block-more, session-more, session-none, block-none, result-is}
 use Rattle.stream.specs.declared.state.Phase.{Phase}
 use Rattle.stream.specs.declared.state.Phase.the-variants.{Reading, Ended, NotStarted, NotRead, NotWritten}
-use Rattle.stream.specs.Job.{blockOf, sessionOf, endingOf, resultOf}
 use Rattle.stream.specs.Run.{Standing, start, phaseAtStart, Read, came, ended, interrupted, failed, bytesIn, offered, afterRead, afterWrite, Turn, turned, goOn, standingOf, inputOf, writtenOf, Wrote, RunsWrite, GoesOn, AllGoOn, RunsEnd}
-
--- ---- what the job makes of bytes that come behind others
-
-module _ (t : Session) (s more : List ℕ) where
-  block-more : (job : Job) → blockOf job t (s ++ more) ≡ blockOf job t s ++ blockOf job (sessionOf job t s) (tailOf s ++ more)
-  unfolding blockOf sessionOf
-  block-more Convert = block-lines t s more
-
-  session-more : (job : Job) → sessionOf job t (s ++ more) ≡ sessionOf job (sessionOf job t s) (tailOf s ++ more)
-  unfolding sessionOf
-  session-more Convert = block-session t s more
-
-result-is : (job : Job) (s : List ℕ) → blockOf job opened s ++ endingOf job (sessionOf job opened s) (tailOf s) ≡ resultOf job s
-unfolding blockOf sessionOf endingOf resultOf printedOf printedFrom
-result-is Convert s = refl
 
 -- ---- what a run has written
 
@@ -53,7 +36,7 @@ unfolding afterRead offered
 kept-read job s input written (came b) e k =
     record {
       session = rw (k .session, k .rest) (sym (session-more opened input b job));
-      rest = rw (k .rest) (sym (block-tail opened input b));
+      rest = rw (k .rest) (sym (tail-more input b));
       wrote = rw (k .wrote, k .session, k .rest) (sym (block-more opened input b job));
     }
 kept-read job s input written ended e k = rw (append-nil input, k .wrote, k .session, k .rest) (result-is job input)
@@ -80,11 +63,11 @@ kept-on job s input written turn NotRead e k = rw e k
 kept-on job s input written turn NotWritten e k = rw e k
 
 begins : (job : Job) (arguments : ℕ) → Kept job (phaseAtStart arguments) (start arguments) [] []
-unfolding sessionOf blockOf blockSession blockLines linesOf sessionAt tailOf
-begins Convert arguments = go (leb arguments 1)
+unfolding tailOf
+begins job arguments = go (leb arguments 1)
   where
-    go : (few : Bool) → Kept Convert (cond few Reading NotStarted) (start arguments) [] []
-    go true = record { session = refl; rest = refl; wrote = refl }
+    go : (few : Bool) → Kept job (cond few Reading NotStarted) (start arguments) [] []
+    go true = record { session = session-none job; rest = refl; wrote = block-none job }
     go false = (refl, refl)
 
 kept : (job : Job) (arguments : ℕ) (turns : List Turn) → let s = standingOf job arguments turns in
@@ -120,7 +103,7 @@ turned-on job s turn e g w = rw w (read-on (turn .read) g)
     read-on interrupted g = e
     read-on failed g = absurd g
 
-taken : (phase : Phase) (before after : Standing) → phase ≡ Reading → goOn phase before after ≡ after
+pub taken : {A : Type 0} (phase : Phase) (before after : A) → phase ≡ Reading → goOn phase before after ≡ after
 taken phase before after e = rw e
 
 started : (arguments : ℕ) → arguments ≤ 1 → phaseAtStart arguments ≡ Reading

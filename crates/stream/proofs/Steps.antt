@@ -9,20 +9,22 @@ use lib.Dec.{leb}
 use lib.ListN.{length, take, drop, length-drop}
 use lib.Seq.{take-add, take-at, length-take-le}
 use Rattle.record.specs.Record.{size}
+use Rattle.record.specs.Records.{tailOf}
+use Rattle.record.proofs.Records.{tail-length}
+use Rattle.digits.specs.Put.{Put}
 use Rattle.lines.specs.Buffer.{putFront}
 use Rattle.lines.specs.Line.{lineRoom}
-use Rattle.report.specs.Block.{tailOf}
+use Rattle.lines.proofs.Buffers.{put-none}
 use Rattle.report.specs.Program.{endRoom}
-use Rattle.report.proofs.Streams.{tail-length}
-use Rattle.stream.specs.declared.job.Job.{Job}
+use Rattle.jobs.specs.declared.Job.{Job}
+use Rattle.jobs.specs.Job.{endingOf}
 use Rattle.stream.specs.declared.state.Phase.the-variants.{Ended, NotRead}
 use Rattle.stream.specs.declared.state.State.{State}
 use Rattle.stream.specs.declared.state.Got.{Got}
 use Rattle.stream.specs.declared.state.Got.the-variants.{Bytes as Some, End, Interrupted, Failed}
 use Rattle.stream.specs.declared.step.Step.{Step}
-use Rattle.stream.specs.Job.{endingOf}
 use Rattle.stream.specs.Run.{Read, came, ended, interrupted, failed, offered, afterRead, afterWrite}
-use Rattle.stream.specs.Step.{bytesOf, withRoom, Holds, heldAfter, standing, writeAfter}
+use Rattle.stream.specs.Step.{bytesOf, withRoom, heldAfter, standing, writeAfter}
 use Rattle.stream.specs.Inside.{Ready, TakesIn, FollowsIn}
 
 -- ---- room
@@ -30,7 +32,7 @@ use Rattle.stream.specs.Inside.{Ready, TakesIn, FollowsIn}
 ready-if : (got : Got) (held buffer text : ℕ) → held + bytesOf got ≤ buffer → lineRoom * ((held + bytesOf got) / size) ≤ text →
     endRoom ≤ text → Ready got held buffer text
 ready-if (Some n) held buffer text a b c = (a, b)
-ready-if End held buffer text a b c = (omega arith, c)
+ready-if End held buffer text a b c = (omega arith, omega arith, c)
 ready-if Interrupted held buffer text a b c = tt
 ready-if Failed held buffer text a b c = tt
 
@@ -54,10 +56,6 @@ put-same l zero = refl
 put-same [] (suc n) = refl
 put-same (x ∷ l) (suc n) = ap (λ (r : List ℕ). x ∷ r) (put-same l n)
 
-nothing : (text : List ℕ) → Holds [] text 0 text
-unfolding putFront
-nothing text = record { counted = refl; holds = refl }
-
 module _ (job : Job) (state : State) (buffer text : List ℕ) where
   pub follows-bytes : (n : ℕ) (r : Step) (buffer′ text′ : List ℕ) → state .held + n ≤ length buffer →
       TakesIn job (state .session) (state .held + n) buffer text r buffer′ text′ → FollowsIn job state (Some n) buffer text r buffer′ text′
@@ -67,7 +65,7 @@ module _ (job : Job) (state : State) (buffer text : List ℕ) where
       let e : take (state .held) buffer ++ take n (drop (state .held) buffer) ≡ s = sym (take-add (state .held) n buffer) in
       let l : length s ≡ state .held + n = length-take-le _ _ h in
       let m : length (take n (drop (state .held) buffer)) ≡ n = length-take-le _ _ (simp length-drop (omega arith)) in
-      let k = tail-length (state .session) s s in
+      let k = tail-length s in
       let rest : take (r .state .held) buffer′ ≡ tailOf s = rw (d .left-over) (take-at (tailOf s) _ (r .state .held) (sym (d .held))) in
       record {
         stands = rw (e, d .session, rest, d .reading);
@@ -76,19 +74,19 @@ module _ (job : Job) (state : State) (buffer text : List ℕ) where
         offers = rw e (d .offers);
       }
 
-  pub follows-end : (n : ℕ) (text′ : List ℕ) → Holds (endingOf job (state .session) (take (state .held) buffer)) text n text′ →
+  pub follows-end : (n : ℕ) (text′ : List ℕ) → Put text 0 (endingOf job (state .session) (take (state .held) buffer)) n text′ →
       FollowsIn job state End buffer text (record { state = record { session = state .session; held = state .held; phase = Ended }; offered = n }) buffer text′
   unfolding afterRead offered
   follows-end n text′ o = record { stands = refl; held = refl; left-over = put-same buffer (state .held); offers = o }
 
   pub follows-interrupted : FollowsIn job state Interrupted buffer text (record { state = state; offered = 0 }) buffer text
   unfolding afterRead offered
-  follows-interrupted = record { stands = refl; held = refl; left-over = put-same buffer (state .held); offers = nothing text }
+  follows-interrupted = record { stands = refl; held = refl; left-over = put-same buffer (state .held); offers = put-none text }
 
   pub follows-failed : FollowsIn job state Failed buffer text
       (record { state = record { session = state .session; held = state .held; phase = NotRead }; offered = 0 }) buffer text
   unfolding afterRead offered
-  follows-failed = record { stands = refl; held = refl; left-over = put-same buffer (state .held); offers = nothing text }
+  follows-failed = record { stands = refl; held = refl; left-over = put-same buffer (state .held); offers = put-none text }
 
 -- ---- what follows a write
 

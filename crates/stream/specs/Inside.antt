@@ -4,32 +4,27 @@ use mathlib.Core.List.{List}
 use Prim.Native.Nat.{ℕ, _+_, _*_, _/_, _≤_}
 use lib.ListN.{length, take, drop}
 use Rattle.record.specs.Record.{size}
+use Rattle.record.specs.Records.{tailOf}
 use Rattle.session.specs.declared.Session.{Session}
+use Rattle.digits.specs.Put.{Put}
 use Rattle.lines.specs.declared.buffer.Text.{Text}
 use Rattle.lines.specs.declared.buffer.Text.the-variants.{Bytes, TooShort}
 use Rattle.lines.specs.Buffer.{putFront}
 use Rattle.lines.specs.Line.{lineRoom}
-use Rattle.report.specs.Block.{tailOf}
 use Rattle.report.specs.Program.{endRoom}
-use Rattle.stream.specs.declared.job.Job.{Job}
-use Rattle.stream.specs.declared.job.Worked.{Worked}
+use Rattle.jobs.specs.declared.Job.{Job}
+use Rattle.jobs.specs.Job.{blockOf, sessionOf}
 use Rattle.stream.specs.declared.state.Phase.the-variants.{Reading}
 use Rattle.stream.specs.declared.state.State.{State}
 use Rattle.stream.specs.declared.state.Got.{Got}
 use Rattle.stream.specs.declared.state.Got.the-variants.{Bytes as Some, End, Interrupted, Failed}
 use Rattle.stream.specs.declared.step.Step.{Step}
-use Rattle.stream.specs.Job.{blockOf, sessionOf}
-use Rattle.stream.specs.Step.{readIn, Holds, FollowsBy}
+use Rattle.stream.specs.Step.{readIn, FollowsBy}
 
 -- how many bytes of text there are
 abbrev pub countOf : Text → ℕ
 countOf (Bytes n) = n
 countOf TooShort = 0
-
--- what `work` answers on a run of bytes s in a session t, and what the text becomes
-pub record Works (job : Job) (t : Session) (s text : List ℕ) (r : Worked) (text′ : List ℕ) : Type 0 where
-  pub session : r .session ≡ sessionOf job t s
-  pub offers : Holds (blockOf job t s) text (r .offered) text′
 
 -- what `take_in` answers on the first bytes of a buffer in a session t, and what the buffer and the text become
 pub record TakesIn (job : Job) (t : Session) (total : ℕ) (buffer text : List ℕ) (r : Step) (buffer′ text′ : List ℕ) : Type 0 where
@@ -37,7 +32,7 @@ pub record TakesIn (job : Job) (t : Session) (total : ℕ) (buffer text : List �
   pub held : r .state .held ≡ length (tailOf (take total buffer))
   pub reading : r .state .phase ≡ Reading
   pub left-over : buffer′ ≡ putFront buffer (tailOf (take total buffer))
-  pub offers : Holds (blockOf job t (take total buffer)) text (r .offered) text′
+  pub offers : Put text 0 (blockOf job t (take total buffer)) (r .offered) text′
 
 -- what `follow` answers where there is room
 abbrev pub FollowsIn : Job → State → Got → List ℕ → List ℕ → Step → List ℕ → List ℕ → Type 0
@@ -46,6 +41,6 @@ FollowsIn job state got buffer text = FollowsBy job state (readIn got (drop (sta
 -- there is room for what a read came to
 abbrev pub Ready : Got → ℕ → ℕ → ℕ → Type 0
 Ready (Some n) held buffer text = (held + n ≤ buffer) × (lineRoom * ((held + n) / size) ≤ text)
-Ready End held buffer text = (held ≤ buffer) × (endRoom ≤ text)
+Ready End held buffer text = (held ≤ buffer) × (lineRoom * (held / size) ≤ text) × (endRoom ≤ text)
 Ready Interrupted held buffer text = Unit {0}
 Ready Failed held buffer text = Unit {0}

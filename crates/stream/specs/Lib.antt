@@ -1,4 +1,3 @@
-pub mod Job
 pub mod Run
 pub mod Step
 pub mod Inside

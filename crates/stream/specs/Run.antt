@@ -4,13 +4,13 @@ use mathlib.Core.Bool.{Bool, true, false, cond}
 use mathlib.Core.List.{List, [], _∷_, _++_}
 use Prim.Native.Nat.{ℕ, _≤_, _<_}
 use lib.Dec.{leb}
+use Rattle.record.specs.Records.{tailOf}
 use Rattle.session.specs.declared.Session.{Session}
 use Rattle.session.specs.Session.{opened}
-use Rattle.report.specs.Block.{tailOf}
-use Rattle.stream.specs.declared.job.Job.{Job}
+use Rattle.jobs.specs.declared.Job.{Job}
+use Rattle.jobs.specs.Job.{blockOf, sessionOf, endingOf, resultOf}
 use Rattle.stream.specs.declared.state.Phase.{Phase}
 use Rattle.stream.specs.declared.state.Phase.the-variants.{Reading, Ended, NotStarted, NotRead, NotWritten}
-use Rattle.stream.specs.Job.{blockOf, sessionOf, endingOf, resultOf}
 
 -- where a run stands: the session, the bytes held over, and the phase
 pub record Standing : Type 0 where

@@ -7,10 +7,11 @@ use lib.Dec.{eqb, leb}
 use lib.IntN.{ℤ, pos, negsuc}
 use lib.ListN.{length, take, drop}
 use Rattle.record.specs.Record.{size}
+use Rattle.digits.specs.Put.{Put}
 use Rattle.lines.specs.Buffer.{putFront}
 use Rattle.lines.specs.Line.{lineRoom}
 use Rattle.report.specs.Program.{endRoom}
-use Rattle.stream.specs.declared.job.Job.{Job}
+use Rattle.jobs.specs.declared.Job.{Job}
 use Rattle.stream.specs.declared.state.Phase.the-variants.{NotWritten}
 use Rattle.stream.specs.declared.state.State.{State}
 use Rattle.stream.specs.declared.state.Got.{Got}
@@ -57,11 +58,6 @@ fits held count buffer text = leb (held + count) buffer && leb (lineRoom * ((hel
 abbrev pub withRoom : Got → ℕ → ℕ → ℕ → Got
 withRoom got held buffer text = cond (fits held (bytesOf got) buffer text) got Failed
 
--- text was put at the front of a buffer l, which became l′, and its length is answered
-pub record Holds (text l : List ℕ) (count : ℕ) (l′ : List ℕ) : Type 0 where
-  pub counted : count ≡ length text
-  pub holds : l′ ≡ putFront l text
-
 -- how many bytes are held over after a read
 abbrev pub heldAfter : ℕ → Read → ℕ
 heldAfter held (came b) = (held + length b) % size
@@ -74,7 +70,7 @@ pub record FollowsBy (job : Job) (state : State) (read : Read) (buffer text : Li
   pub stands : standing (r .state) buffer′ ≡ afterRead job (standing state buffer) read
   pub held : r .state .held ≡ heldAfter (state .held) read
   pub left-over : buffer′ ≡ putFront buffer (afterRead job (standing state buffer) read .rest)
-  pub offers : Holds (offered job (standing state buffer) read) text (r .offered) text′
+  pub offers : Put text 0 (offered job (standing state buffer) read) (r .offered) text′
 
 -- by what the read came to, with room or without
 abbrev pub Follows : Job → State → Got → List ℕ → List ℕ → Step → List ℕ → List ℕ → Type 0

@@ -1,11 +1,9 @@
 // What a program makes of a stream of bytes that it reads in pieces: where it stands after each read and each write.
 mod front;
-mod job;
 mod room;
 mod state;
 mod step;
 
-pub use job::Job;
 pub use state::Got;
 pub use state::Phase;
 pub use state::State;

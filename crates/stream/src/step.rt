@@ -2,18 +2,19 @@
 ghost use mathlib.Core.Path.{_≡_};
 ghost use Prim.Native.Nat.{_*_, _≤_};
 ghost use lib.ListN.{length, take};
+ghost use Rattle.record.specs.Records.{recordsIn};
 ghost use Rattle.lines.specs.Line.{lineRoom};
-ghost use Rattle.report.specs.Block.{recordsIn};
 ghost use Rattle.stream.specs.Step.{Follows, writeAfter};
-ghost use Rattle.stream.specs.Inside.{Ready, FollowsIn, TakesIn};
+ghost use Rattle.stream.specs.Inside.{countOf, Ready, FollowsIn, TakesIn};
 use super::front::move_to_front;
-use super::job::Job;
-use super::job::finish;
-use super::job::work;
 use super::room::with_room;
 use super::state::Got;
 use super::state::Phase;
 use super::state::State;
+use jobs::Job;
+use jobs::finish;
+use jobs::work;
+use lines::Text;
 use record::SIZE;
 use session::Session;
 
@@ -42,14 +43,14 @@ fn follow(job: Job, state: State, got: Got, buffer: &mut [u8], text: &mut [u8]) 
     match got {
         Got::Bytes(n) => take_in(job, session, held + n, buffer, text),
         Got::End => {
-            let offered = finish(job, session, &buffer[..held], text);
+            let lines = finish(job, session, &buffer[..held], text);
             Step {
                 state: State {
                     session,
                     held,
                     phase: Phase::Ended,
                 },
-                offered,
+                offered: count(lines),
             }
         }
         Got::Interrupted => Step { state, offered: 0 },
@@ -69,8 +70,9 @@ fn take_in(job: Job, session: Session, total: usize, buffer: &mut [u8], text: &m
     requires { ⌜ (total ≤ length (now buffer)) × (lineRoom * recordsIn (take total (now buffer)) ≤ length (now text)) ⌝ }
     ensures { λ r. ⌜ TakesIn job session total (now (buffer .entry)) (now (text .entry)) r (now (buffer .exit)) (now (text .exit)) ⌝ }
 {
-    let worked = work(job, session, &buffer[..total], text);
-    let next = worked.session;
+    let block = work(job, session, &buffer[..total], text);
+    let next = block.session;
+    let lines = block.text;
     let held = total % SIZE;
     move_to_front(buffer, total - held, total);
     Step {
@@ -79,7 +81,17 @@ fn take_in(job: Job, session: Session, total: usize, buffer: &mut [u8], text: &m
             held,
             phase: Phase::Reading,
         },
-        offered: worked.offered,
+        offered: count(lines),
+    }
+}
+
+// How many bytes of text there are.
+fn count(lines: Text) -> usize
+    ensures { λ r. ⌜ r ≡ countOf lines ⌝ }
+{
+    match lines {
+        Text::Bytes(n) => n,
+        Text::TooShort => 0,
     }
 }
 

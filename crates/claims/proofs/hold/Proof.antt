@@ -38,6 +38,7 @@ use Rattle.degrees.proofs.Written.{degrees-stand, units-stand}
 use Rattle.little_endian.specs.Number.{bytesOf, numberAt}
 use Rattle.iso6709.specs.Answer.{latitudeIn, longitudeIn, positionIn, readOrder, readOf as readText, textOf, writeOrder, writeOf as writeText}
 use Rattle.record.specs.Record.{recordOf, kindIn, formIn, centralIn, firstIn, secondIn, movedOf}
+use Rattle.record.specs.Records.{recordAt, tailOf}
 use Rattle.record.specs.Answer.{pairOrder, pairOf, convertOrder, convertOf, outputAfter}
 use Rattle.session.specs.Session.{opened, cap, feedOrder, feedOf, sessionAfter}
 use Rattle.session.specs.History.{answersOf, sessionOf}
@@ -46,7 +47,7 @@ use Rattle.session.proofs.Histories.{answers-alike, agrees}
 use Rattle.lines.specs.Decimal.{digitsIn, decimalOf, numberText}
 use Rattle.lines.specs.Line.{lineOf, closingOf}
 use Rattle.lines.proofs.Decimals.{is-decimal}
-use Rattle.report.specs.Block.{recordAt, answerAt, sessionAt, linesOf, tailOf, blockSession, blockLines}
+use Rattle.report.specs.Block.{answerAt, sessionAt, linesOf, blockSession, blockLines}
 use Rattle.report.specs.Program.{endOf, printedFrom, printedOf}
 use Rattle.report.proofs.Blocks.{sessions-compose, lines-compose}
 use Rattle.report.proofs.Streams.{reads-do-not-matter, tail-refused, session-of-history}
@@ -78,6 +79,9 @@ use Rattle.claims.proofs.Pieces.{converting-answers, feeding-answers}
 use Rattle.claims.proofs.Records.{records-by-numbers}
 use Rattle.claims.proofs.Statuses.{interface}
 use Rattle.claims.proofs.Texts.{texts, text-examples}
+use Rattle.claims.proofs.Exchanges.{exchange, reprojection-examples}
+use Rattle.claims.proofs.Following.{reprojection}
+use Rattle.claims.proofs.ReprojectedRuns.{reprojected-runs}
 use Rattle.claims.proofs.hold.Statement.{statement}
 use Rattle.claims.proofs.hold.Tie as tie
 
@@ -236,7 +240,8 @@ printing =
     }
 
 returns : tie.Need-returns
-returns c = (demands, sharp, worked, record-example, arithmetic, house-sine, cosine-kinds, written, printing, interface, texts, text-examples)
+returns c =
+    (demands, sharp, worked, record-example, arithmetic, house-sine, cosine-kinds, written, printing, interface, texts, text-examples, exchange, reprojection, reprojection-examples, reprojected-runs)
 
 pub hold-spec : {M : Type 1} → statement M
 hold-spec = tie.close (tie.spec returns)

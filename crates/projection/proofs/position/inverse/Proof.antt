@@ -13,12 +13,12 @@ use Rattle.whole.proofs.Signs.{natAbs-join}
 use Rattle.angle.specs.Angle.{N, outside}
 use Rattle.angle.proofs.Judged.{number-is, within}
 use Rattle.parallel.specs.declared.at.Parallel.{Parallel}
-use Rattle.parallel.specs.Refusal.{given, unless, badKind}
+use Rattle.parallel.specs.Refusal.{given, andThen, unless, badKind}
 use Rattle.parallel.specs.Answer.{parallelMeaning}
 use Rattle.parallel.proofs.Orders.{Passes}
 use Rattle.projection.specs.Refusal.{badCentral}
 use Rattle.projection.specs.Answer.{inverseOf}
-use Rattle.projection.proofs.Orders.{positionOn, andThen, inverse-parallel}
+use Rattle.projection.proofs.Orders.{positionOn, inverse-parallel}
 use Rattle.projection.proofs.position.inverse.Statement.{statement}
 use Rattle.projection.proofs.position.inverse.Tie as tie
 

@@ -8,10 +8,11 @@ use borrow.Author.Tests.{le-leb, lt-leb}
 use denote.Ref.{now}
 use lib.ListN.{length}
 use Rattle.record.specs.Record.{size}
+use Rattle.record.specs.Records.{recordsIn}
 use Rattle.session.specs.declared.Session.{Session}
 use Rattle.lines.specs.Line.{lineRoom}
 use Rattle.lines.proofs.Buffers.{placed, too-short}
-use Rattle.report.specs.Block.{sessionAt, recordsIn, blockSession, blockLines, blockFits}
+use Rattle.report.specs.Block.{sessionAt, blockSession, blockLines, blockFits}
 use Rattle.report.proofs.Blocks.{Progress, no-records, one-more}
 use Rattle.report.proofs.block.convert_block.Statement.{statement}
 use Rattle.report.proofs.block.convert_block.Tie as tie

@@ -11,6 +11,7 @@ use Rattle.lines.specs.Line.{lineRoom}
 use Rattle.report.specs.Program.{endRoom}
 use Rattle.stream.specs.declared.state.Got.{Got}
 use Rattle.stream.specs.Inside.{Ready}
+use Rattle.stream.proofs.Works.{finished}
 use Rattle.stream.proofs.Steps.{follows-bytes, follows-end, follows-interrupted, follows-failed}
 use Rattle.stream.proofs.step.follow.Statement.{statement}
 use Rattle.stream.proofs.step.follow.Tie as tie
@@ -25,7 +26,7 @@ module _ (c : tie.After-got) where
   ready = subst (λ (g : Got). Ready g (s .args .state .held) (length (now (s .args .buffer))) (length (now (s .args .text)))) (c .got .given .1) (s .pre)
 
 end-ready : (c : tie.After-enum-told) → let s = c .before .before .before .before .before in
-    (s .args .state .held ≤ length (now (s .args .buffer))) × (endRoom ≤ length (now (s .args .text)))
+    (s .args .state .held ≤ length (now (s .args .buffer))) × (lineRoom * (s .args .state .held / size) ≤ length (now (s .args .text))) × (endRoom ≤ length (now (s .args .text)))
 end-ready c =
     let s = c .before .before .before .before .before in
     subst (λ (g : Got). Ready g (s .args .state .held) (length (now (s .args .buffer))) (length (now (s .args .text)))) (c .enum-told .given .1) (s .pre)
@@ -49,11 +50,16 @@ returns c =
 
 returns-2 : tie.Need-returns-2
 returns-2 c =
-    let ending = c .before .before .finish in
-    let told = c .before .before .before .before .before in
+    let ending = c .before .before .before .finish in
+    let told = c .before .before .before .before .before .before in
     let a = told .before .before .before .before .before .args in
+    let r = end-ready told in
+    let rest = take (a .state .held) (now (a .buffer)) in
+    let room : lineRoom * (length rest / size) ≤ length (now (a .text)) = rw (length-take-le (a .state .held) (now (a .buffer)) (r .0)) (r .1) in
     rw (told .enum-told .given .1)
-    (follows-end (a .job) (a .state) (now (a .buffer)) (now (a .text)) (ending .result) (ending .last .1 .1 .1 .0) (ending .ensures))
+    (follows-end (a .job) (a .state) (now (a .buffer)) (now (a .text)) (c .count .result) (ending .last .1 .1 .1 .0)
+    (finished (a .job) (a .state .session) rest (now (a .text)) (ending .last .1 .1 .1 .0) (ending .result) (c .count .result) room (r .2)
+    (ending .ensures) (c .count .ensures)))
 
 returns-3 : tie.Need-returns-3
 returns-3 c =
@@ -75,7 +81,8 @@ follow-spec =
     (λ c. search needs)
     (λ c. omega (arith, end-ready c .0))
     (λ c. sym (length-take-le _ _ (end-ready (c .before) .0)))
-    (λ c κs. end-ready (c .before .before) .1)
+    (λ c κs. search needs)
+    (λ c κs. search needs)
     (λ c. search needs)
     (λ c. search needs)
     (λ c. search needs)

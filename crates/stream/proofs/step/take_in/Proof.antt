@@ -12,11 +12,12 @@ slice-aggregate-work c = sym (length-take-le _ _ (c .before .before .before .pre
 
 returns : tie.Need-returns
 returns c =
-    let moved = c .before .before .move-to-front in
-    let work = c .before .before .before .before .before .before .before .work in
-    let s = c .before .before .before .before .before .before .before .before .before .before .before .before in
-    takes-in (s .args .job) (s .args .session) (s .args .total) (now (s .args .buffer)) (now (s .args .text)) (s .pre .0) (work .result)
-    (moved .last .0) (work .last .1 .1 .1 .0) (work .ensures) (moved .ensures)
+    let moved = c .before .before .before .move-to-front in
+    let w = c .before .before .before .before .before .before .before .before in
+    let work = w .work in
+    let s = w .before .before .before .before .before in
+    takes-in (s .args .job) (s .args .session) (s .args .total) (now (s .args .buffer)) (now (s .args .text)) (s .pre .0) (s .pre .1)
+    (work .result) (c .count .result) (moved .last .0) (work .last .1 .1 .1 .0) (work .ensures) (c .count .ensures) (moved .ensures)
 
 pub take-in-spec : {M : Type 1} → statement M
 take-in-spec =
@@ -24,8 +25,9 @@ take-in-spec =
     (tie.spec
     (λ c. search needs)
     slice-aggregate-work
-    (λ c κs. c .before .before .before .before .pre .1)
+    (λ c κs. search needs)
     (λ c. search needs)
+    (λ c κs. search needs)
     (λ c κs. search needs)
     (λ c. search needs)
     (λ c. search needs)

@@ -1,0 +1,4 @@
+pub mod Retired
+pub mod Inside
+pub mod Reprojected
+pub mod All
