@@ -4,29 +4,7 @@
 #include <stdlib.h>
 
 #include "points.h"
-
-/* A record by its form: 0 for a position, 1 for a place. */
-struct record {
-    uint8_t mark[2], kind, form;
-    int32_t central, first, second;
-};
-
-static FILE *open_file(const char *folder, const char *name) {
-    char path[4096];
-    snprintf(path, sizeof path, "%s/%s", folder, name);
-    FILE *file = fopen(path, "wb");
-    if (file == NULL) {
-        perror(path);
-        exit(1);
-    }
-    return file;
-}
-
-/* The machine's bytes are the record's: x86-64 has the least byte first. */
-static void put_record(FILE *file, uint8_t kind, uint8_t form, const pair numbers) {
-    struct record record = {{0x4D, 0xD2}, kind, form, CENTRAL, numbers[0], numbers[1]};
-    fwrite(&record, sizeof record, 1, file);
-}
+#include "records.h"
 
 static void put_doubles(FILE *file, const pair numbers, double factor) {
     float_pair doubles = {numbers[0] * factor, numbers[1] * factor};

@@ -1,4 +1,4 @@
-//! Document 01's rules and document 02's orders 1 and 5 once more, with no code of the product, and inputs for them: at every
+//! Document 01's rules and document 02's orders 1, 2 and 5 once more, with no code of the product, and inputs for them: at every
 //! edge, and at random from a seed.
 pub mod arcminutes;
 pub mod edges;
@@ -6,10 +6,13 @@ pub mod float;
 pub mod float_edges;
 pub mod float_random;
 pub mod float_requests;
+pub mod halves;
 pub mod map;
 pub mod record;
 pub mod record_cases;
 pub mod record_random;
+pub mod reproject;
+pub mod reproject_cases;
 pub mod request;
 pub mod requests;
 pub mod rounding;
@@ -24,10 +27,13 @@ pub mod text_request;
 pub mod text_requests;
 pub mod wide;
 
-/// Stops where the second program has something else than document 01's table and its record, another sine, or another text.
+/// Stops where the second program has something else than the documents' table and record, another half-width of kinds 3 and 4,
+/// another sine, or another text.
 pub fn check() {
     sine::check();
     table::check();
+    map::check();
     record::check();
+    reproject::check();
     text::check();
 }

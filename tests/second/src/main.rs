@@ -1,15 +1,19 @@
-//! The second program: document 01's rules and document 02's orders 1 and 5 once more, with no code of the product. `second
+//! The second program: document 01's rules and document 02's orders 1, 2 and 5 once more, with no code of the product. `second
 //! requests` writes requests for the program `query`, and `second answers` reads such requests and writes what is to be
 //! answered. `second random SEED ROUNDS` writes more requests on floats than the stored ones.
 //!
-//! `second convert` does what the program `convert` does. `second records` writes its stored input, `second refusals` and
-//! `second stations` those of two small runs, the latter from lines of text, and `second random-records SEED COUNT` more
+//! `second convert` and `second reproject` do what the programs of these names do. `second records` and `second old-records`
+//! write their stored inputs; `second refusals`, `second retired` and `second stations` those of small runs, the last from lines
+//! of text, and `second old-stations` the same stations on the old rows. `second random-records SEED COUNT` writes more
 //! records than the stored ones.
 use second::map::Answer;
+use second::record_cases::joined;
 use second::request::{bits, Request};
 use second::requests::texts;
+use second::table::{old_row_of, row_of};
 use second::text_request::TextRequest;
 use second::{float_random, record_cases, record_random, requests, session, stations};
+use second::{reproject, reproject_cases};
 use std::io::{self, Read, Write};
 
 fn main() -> io::Result<()> {
@@ -29,12 +33,13 @@ fn main() -> io::Result<()> {
             out.write_all((lines.join("\n") + "\n").as_bytes())
         }
         ["convert"] => session::convert(io::stdin().lock(), out),
+        ["reproject"] => reproject::reproject(io::stdin().lock(), out),
         ["records"] => out.write_all(&record_cases::all()),
-        ["refusals"] => out.write_all(&record_cases::joined(&record_cases::refusals())),
-        ["stations"] => {
-            let records = stations::records(&io::read_to_string(io::stdin())?);
-            out.write_all(&record_cases::joined(&records))
-        }
+        ["old-records"] => out.write_all(&reproject_cases::all()),
+        ["refusals"] => out.write_all(&joined(&record_cases::refusals())),
+        ["retired"] => out.write_all(&joined(&reproject_cases::retired())),
+        ["stations"] => out.write_all(&stations_on(row_of)?),
+        ["old-stations"] => out.write_all(&stations_on(old_row_of)?),
         ["random-records", seed, count] => {
             let [seed, count] = [seed, count].map(|word| word.parse().expect("a number"));
             record_random::write(seed, count, out)
@@ -42,9 +47,16 @@ fn main() -> io::Result<()> {
         _ => {
             eprintln!("second requests | answers | random SEED ROUNDS");
             eprintln!("second convert | records | refusals | stations | random-records SEED COUNT");
+            eprintln!("second reproject | old-records | retired | old-stations");
             std::process::exit(2)
         }
     }
+}
+
+/// The records of the stations that standard input names, their places on these rows.
+fn stations_on(row_of: stations::Rows) -> io::Result<Vec<u8>> {
+    let text = io::read_to_string(io::stdin())?;
+    Ok(joined(&stations::records(&text, row_of)))
 }
 
 /// A line of answer for each line; what follows the last line's end is a line if it has a byte.

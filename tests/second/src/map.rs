@@ -1,7 +1,8 @@
-//! Document 01's rules in 128-bit arithmetic, and the half-widths of document 02's order 5.
+//! Document 01's rules in 128-bit arithmetic, and the half-widths of document 02's order 5. What takes a row serves those of the
+//! table and the retired ones.
 use crate::rounding::{floor_root, nearest};
 use crate::sine::{cosine, ONE};
-use crate::table::{row_of, Outline, Row};
+use crate::table::{retired_row_of, row_of, Outline, Row};
 
 pub const HALF_TURN: i128 = 180 * 60 * 60 * 100;
 pub const RIGHT_ANGLE: i128 = 90 * 60 * 60 * 100;
@@ -12,6 +13,32 @@ pub enum Answer {
     Pair(i128, i128),
     Floats(f64, f64),
     Refused(u8),
+}
+
+impl Answer {
+    /// The pair of whole numbers, or the number of the refusal.
+    pub fn pair(self) -> Result<[i128; 2], u8> {
+        match self {
+            Answer::Pair(first, second) => Ok([first, second]),
+            Answer::Refused(n) => Err(n),
+            _ => panic!("an answer of whole numbers"),
+        }
+    }
+}
+
+/// Half-widths at the Equator and at the pole: order 2's for the rows of kinds 3 and 4, and the other way round for the
+/// retired ones.
+const POINTED: [i128; 2] = [297650196, 0];
+const FLAT: [i128; 2] = [297650196, 148825098];
+
+/// Stops where the rows of kinds 3 and 4 have other half-widths.
+pub fn check() {
+    let rows = [row_of(3), row_of(4), retired_row_of(3), retired_row_of(4)];
+    let ends = rows.map(|row| {
+        let row = row.expect("a row");
+        [0, RIGHT_ANGLE].map(|p| row_width(&row, p))
+    });
+    assert_eq!(ends, [POINTED, FLAT, FLAT, POINTED], "kinds 3 and 4");
 }
 
 /// The half-width at a latitude of size p.
@@ -59,9 +86,21 @@ pub fn half_width(kind: i128, latitude: i128) -> Answer {
 }
 
 pub fn forward(kind: i128, central: i128, longitude: i128, latitude: i128) -> Answer {
-    let Some(row) = row_of(kind) else {
-        return Answer::Refused(1);
-    };
+    match row_of(kind) {
+        Some(row) => row_forward(&row, central, longitude, latitude),
+        None => Answer::Refused(1),
+    }
+}
+
+pub fn inverse(kind: i128, central: i128, x: i128, y: i128) -> Answer {
+    match row_of(kind) {
+        Some(row) => row_inverse(&row, central, x, y),
+        None => Answer::Refused(1),
+    }
+}
+
+/// The place of a position under a row.
+pub fn row_forward(row: &Row, central: i128, longitude: i128, latitude: i128) -> Answer {
     if central.abs() > HALF_TURN {
         return Answer::Refused(3);
     }
@@ -72,22 +111,20 @@ pub fn forward(kind: i128, central: i128, longitude: i128, latitude: i128) -> An
         return Answer::Refused(5);
     }
     let d = wrapped(longitude - central);
-    let w = row_width(&row, latitude.abs());
-    Answer::Pair(nearest(w * d, HALF_TURN), row_y(&row, latitude))
+    let w = row_width(row, latitude.abs());
+    Answer::Pair(nearest(w * d, HALF_TURN), row_y(row, latitude))
 }
 
-pub fn inverse(kind: i128, central: i128, x: i128, y: i128) -> Answer {
-    let Some(row) = row_of(kind) else {
-        return Answer::Refused(1);
-    };
+/// The position of a place under a row.
+pub fn row_inverse(row: &Row, central: i128, x: i128, y: i128) -> Answer {
     if central.abs() > HALF_TURN {
         return Answer::Refused(3);
     }
-    if y.abs() > row_y(&row, RIGHT_ANGLE) {
+    if y.abs() > row_y(row, RIGHT_ANGLE) {
         return Answer::Refused(6);
     }
-    let latitude = row_latitude(&row, y);
-    let w = row_width(&row, latitude.abs());
+    let latitude = row_latitude(row, y);
+    let w = row_width(row, latitude.abs());
     if x.abs() > w {
         return Answer::Refused(7);
     }

@@ -1,6 +1,6 @@
 //! Document 01's sixteen-byte record: the mark, kind and form, then three numbers. The numbers are put together from their
 //! bytes and taken apart by powers of 256.
-use crate::map::{forward, inverse, Answer};
+use crate::map::{forward, inverse};
 
 pub const LENGTH: usize = 16;
 pub const MARK: [u8; 2] = [0x4d, 0xd2];
@@ -67,15 +67,12 @@ impl Record {
             PLACE => (inverse(kind, central, first, second), POSITION),
             _ => return Err(10),
         };
-        match answer {
-            Answer::Pair(first, second) => Ok(Record {
-                form,
-                numbers: [self.numbers[0], narrow(first), narrow(second)],
-                ..*self
-            }),
-            Answer::Refused(n) => Err(n),
-            _ => panic!("an answer of whole numbers"),
-        }
+        let [first, second] = answer.pair()?.map(narrow);
+        Ok(Record {
+            form,
+            numbers: [self.numbers[0], first, second],
+            ..*self
+        })
     }
 }
 

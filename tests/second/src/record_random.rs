@@ -2,7 +2,7 @@
 use crate::map::{row_latitude, row_width, row_y, HALF_TURN, RIGHT_ANGLE};
 use crate::record::{record, Record, LENGTH, PLACE, POSITION};
 use crate::requests::{below, seeded, within};
-use crate::table::{row_of, Row, KINDS};
+use crate::table::{old_row_of, row_of, Row, KINDS, RETIRED};
 use std::io::{self, BufWriter, Write};
 
 /// Some records, and a torn one whose length is the seed's remainder by 16.
@@ -21,17 +21,42 @@ pub struct Chance {
     state: u64,
     /// The last record that was moved.
     moved: Record,
+    /// Whether places are drawn on the old rows, mostly of kinds that have a retired one.
+    old: bool,
 }
 
 impl Chance {
     pub fn new(seed: u64) -> Chance {
         let state = seeded(seed);
         let moved = record(POSITION, 1, [0; 3]);
-        Chance { state, moved }
+        let old = false;
+        Chance { state, moved, old }
+    }
+
+    pub fn old(seed: u64) -> Chance {
+        let old = true;
+        Chance {
+            old,
+            ..Chance::new(seed)
+        }
+    }
+
+    fn kind(&mut self) -> i128 {
+        if self.old && self.below(4) > 0 {
+            RETIRED[self.below(2) as usize]
+        } else {
+            1 + i128::from(self.below(KINDS as u64))
+        }
+    }
+
+    /// The row that places of a kind are drawn on.
+    fn row_of(&self, kind: i128) -> Row {
+        let row = if self.old { old_row_of } else { row_of };
+        row(kind).expect("a kind of the table")
     }
 
     pub fn record(&mut self) -> Record {
-        let kind = 1 + i128::from(self.below(KINDS as u64));
+        let kind = self.kind();
         let drawn = match self.below(16) {
             0..=4 => self.position(kind),
             5..=7 => self.place(kind),
@@ -70,20 +95,20 @@ impl Chance {
     }
 
     fn place(&mut self, kind: i128) -> Record {
-        let (central, y, w) = self.row(&row_of(kind).expect("a kind of the table"));
+        let (central, y, w) = self.row(&self.row_of(kind));
         record(PLACE, kind, [central, self.within(w), y])
     }
 
     /// A place that may only be inside the Equator's width.
     fn place_by_the_equator(&mut self, kind: i128) -> Record {
-        let row = row_of(kind).expect("a kind of the table");
+        let row = self.row_of(kind);
         let (central, y, _) = self.row(&row);
         record(PLACE, kind, [central, self.within(row_width(&row, 0)), y])
     }
 
     /// x at the end of its row, or at most two units to either side.
     fn place_at_the_edge(&mut self, kind: i128) -> Record {
-        let (central, y, w) = self.row(&row_of(kind).expect("a kind of the table"));
+        let (central, y, w) = self.row(&self.row_of(kind));
         let x = w + self.within(2);
         let x = if self.below(2) == 0 { x } else { -x };
         record(PLACE, kind, [central, x, y])
@@ -91,7 +116,7 @@ impl Chance {
 
     /// Each number at most two from 0 or from a limit of its own, either way.
     fn near_limits(&mut self, kind: i128) -> Record {
-        let row = row_of(kind).expect("a kind of the table");
+        let row = self.row_of(kind);
         let form = self.below(2) as u8;
         let limits = if form == POSITION {
             [HALF_TURN, HALF_TURN, RIGHT_ANGLE]

@@ -53,7 +53,7 @@ pub fn convert(input: impl Read, output: impl Write) -> io::Result<()> {
 }
 
 /// Reads until the piece is full or the input ends, and gives how many bytes it has then.
-fn fill(input: &mut impl Read, piece: &mut [u8]) -> io::Result<usize> {
+pub fn fill(input: &mut impl Read, piece: &mut [u8]) -> io::Result<usize> {
     let mut length = 0;
     while length < piece.len() {
         match input.read(&mut piece[length..]) {

@@ -6,6 +6,9 @@ use std::f64::consts::PI;
 /// Kinds are numbered from 1 to this one.
 pub const KINDS: i128 = 12;
 
+/// The kinds that have a retired row.
+pub const RETIRED: [i128; 2] = [3, 4];
+
 pub struct Row {
     pub kx: i128,
     pub ky: i128,
@@ -22,12 +25,13 @@ pub enum Outline {
     CosineMean,
 }
 
-/// KX and KY as document 01 has them, from kind 1 on; kind 11's are kind 1's, and kind 12's follow from its c.
+/// KX and KY as document 01 has them, from kind 1 on; document 02 exchanges those of kinds 3 and 4, kind 11's are kind 1's, and
+/// kind 12's follow from its c.
 const DOCUMENT: [(i128, i128); KINDS as usize] = [
     (314159265, 314159265),
     (314159265, 314159265),
-    (297650196, 297650196),
     (595300392, 297650196),
+    (297650196, 297650196),
     (132650043, 265300086),
     (272069905, 314159265),
     (250662827, 250662827),
@@ -38,12 +42,22 @@ const DOCUMENT: [(i128, i128); KINDS as usize] = [
     (277096497, 277096497),
 ];
 
+/// The same of the retired rows: as document 01 has them.
+const RETIRED_DOCUMENT: [(i128, i128); 2] = [(297650196, 297650196), (595300392, 297650196)];
+
 /// Stops where the factors give something else than these numbers.
 pub fn check() {
     for (kind, document) in (1..).zip(DOCUMENT) {
-        let row = row_of(kind).expect("a kind of the table");
-        assert_eq!((row.kx, row.ky), document, "KX and KY of kind {kind}");
+        hold(kind, row_of(kind), document);
     }
+    for (kind, document) in RETIRED.into_iter().zip(RETIRED_DOCUMENT) {
+        hold(kind, retired_row_of(kind), document);
+    }
+}
+
+fn hold(kind: i128, row: Option<Row>, document: (i128, i128)) {
+    let row = row.expect("a kind of the table");
+    assert_eq!((row.kx, row.ky), document, "KX and KY of kind {kind}");
 }
 
 fn scaled(factor: f64) -> i128 {
@@ -74,8 +88,8 @@ pub fn row_of(kind: i128) -> Option<Row> {
     Some(match kind {
         1 => row(1.0, 1.0, Root(2, 0, 0)),
         2 => row(1.0, 1.0, Root(0, 2, -4)),
-        3 => row(0.94745, 0.94745, Root(0, 2, -3)),
-        4 => row(1.89490, 0.94745, Root(-1, 2, -3)),
+        3 => row(1.89490, 0.94745, Root(-1, 2, -3)),
+        4 => row(0.94745, 0.94745, Root(0, 2, -3)),
         5 => row(2.0 / eckert, 4.0 / eckert, Root(2, 2, -4)),
         6 => row(3f64.sqrt() / 2.0, 1.0, Root(0, 2, -3)),
         7 => row(putnins_3, putnins_3, Quotient(0, 2, -4)),
@@ -90,6 +104,20 @@ pub fn row_of(kind: i128) -> Option<Row> {
         },
         _ => return None,
     })
+}
+
+/// The retired row of kind 3 or 4: these stood in the table before document 02's order 2.
+pub fn retired_row_of(kind: i128) -> Option<Row> {
+    Some(match kind {
+        3 => row(0.94745, 0.94745, Outline::Root(0, 2, -3)),
+        4 => row(1.89490, 0.94745, Outline::Root(-1, 2, -3)),
+        _ => return None,
+    })
+}
+
+/// The row that a kind had before that order.
+pub fn old_row_of(kind: i128) -> Option<Row> {
+    retired_row_of(kind).or_else(|| row_of(kind))
 }
 
 /// The kinds by turns, without an end. Each round begins one kind further: in a list that repeats every few entries a kind

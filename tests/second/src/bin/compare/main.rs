@@ -1,6 +1,7 @@
-//! Compares the library, through its C interface, and the program `convert` with the second program. `compare names` prints
-//! the names of the parts, one a line. `compare NAME SEED` runs a part, from the repository's root, and prints how many
-//! inputs it had; where something differs, it prints the first difference and its status is 1.
+//! Compares the library, through its C interface, and the programs `convert` and `reproject` with the second program. `compare
+//! names` prints the names of the parts, one a line. `compare NAME SEED` runs a part, from the repository's root, and prints how
+//! many inputs it had; where something differs, it prints the first difference and its status is 1.
+mod convert;
 mod floats;
 mod halves;
 mod lent;
@@ -12,17 +13,19 @@ mod program;
 mod record_calls;
 mod record_inputs;
 mod records;
+mod reproject;
 mod sessions;
 mod text_calls;
 mod texts;
 
 use part::Part;
+use second::reproject::{A_POSITION, OTHER_KIND};
 use std::process::ExitCode;
 
 /// A part's name, its comparison from a seed, and every number that is to be given: 0 and the refusals.
 type Named = (&'static str, fn(&mut Part, u64), &'static [u8]);
 
-const PARTS: [Named; 15] = [
+const PARTS: [Named; 16] = [
     ("forward on numbers", numbers::forward, &[0, 1, 3, 4, 5]),
     ("inverse on numbers", numbers::inverse, &[0, 1, 3, 6, 7]),
     ("numbers handed on", numbers::handed_on, &[0]),
@@ -37,12 +40,16 @@ const PARTS: [Named; 15] = [
     ("text written", texts::written, &[0, 4, 5, 12]),
     ("text read", texts::read, &[0, 4, 5, 12, 13, 14, 15]),
     ("text handed on", texts::handed_on, &[0]),
-    ("program convert", program::convert, &UNCAPPED),
+    ("program convert", convert::compare, &UNCAPPED),
+    ("program reproject", reproject::compare, &REPROJECTED),
 ];
 
 /// What a call on a record gives without a session, and in one.
 const UNCAPPED: [u8; 10] = [0, 1, 3, 4, 5, 6, 7, 8, 9, 10];
 const CAPPED: [u8; 11] = [0, 1, 3, 4, 5, 6, 7, 8, 9, 10, 11];
+
+/// What becomes of the pieces that `reproject` reads: 0 where a place is taken.
+const REPROJECTED: [u8; 9] = [0, 3, 6, 7, 8, 9, 10, A_POSITION, OTHER_KIND];
 
 fn main() -> ExitCode {
     second::check();

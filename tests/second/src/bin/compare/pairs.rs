@@ -28,11 +28,7 @@ impl Number for i32 {
     }
 
     fn pair(answer: Answer) -> Result<[i32; 2], u8> {
-        match answer {
-            Answer::Pair(first, second) => Ok([first, second].map(narrow)),
-            Answer::Refused(n) => Err(n),
-            _ => panic!("an answer of whole numbers"),
-        }
+        answer.pair().map(|pair| pair.map(narrow))
     }
 }
 
