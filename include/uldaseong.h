@@ -11,7 +11,7 @@
  *    5  latitude outside 90 degrees either way
  *    6  size of y greater than the pole's y
  *    7  size of x greater than the half-width of the row found at y
- *    8  input or output piece not of 16 bytes
+ *    8  input or output piece not of 16 bytes; of a note, not of 10
  *    9  mark is wrong
  *   10  form is neither 0 nor 1
  *   11  session is full
@@ -19,10 +19,11 @@
  *   13  a sign, digit, point or slash is missing from its place in a text
  *   14  minutes or seconds of a text are 60 or more
  *   15  minus before zero in a text
+ *   16  the two numbers of a note add to more than 1,000,000,000
  *
  * The first that applies is given, in the order 8, 11, 9, 10, 1, 2, 3, then 4 and 5 for a position, or 6 and 7 for a place; to read
- * a text in the order 12, 13, 14, 15, 5, 4, and to write one in the order 12, 5, 4. On a refusal nothing lent has changed, but that
- * a session counts it (8 and 11 are not counted).
+ * a text in the order 12, 13, 14, 15, 5, 4, and to write one in the order 12, 5, 4; to restore a note in the order 8, 9, 16, and to save
+ * one in the order 8, 16. On a refusal nothing lent has changed, but that feeding counts it (8 and 11 are not counted).
  *
  * What a caller owes: pointers are aligned and not null, not even for a length of 0; what is lent for writing overlaps nothing else
  * that is lent; and the floating-point unit rounds to nearest (FE_TONEAREST, as every program starts), since under another mode
@@ -38,9 +39,10 @@
 extern "C" {
 #endif
 
-/* The length of a record, and of a position's text. */
+/* The length of a record, of a position's text, and of a session's note. */
 #define ULDASEONG_RECORD 16
 #define ULDASEONG_TEXT 22
+#define ULDASEONG_NOTE 10
 
 /* Angles are whole hundredths of an arcsecond, 360,000 to the degree, east and north positive; places are whole hundred-
  * millionths of the sphere's radius. */
@@ -65,6 +67,15 @@ uint8_t uldaseong_convert_record(const uint8_t *input, size_t input_length, uint
  * session is { 0, 0 }, and any two counts are taken. One that is moved adds one to the first, one that is refused by a number
  * other than 8 and 11 adds one to the second. From a sum of 1,000,000,000 up the session is full: 11, after 8. */
 uint8_t uldaseong_feed(uint64_t counts[2], const uint8_t *input, size_t input_length, uint8_t *output, size_t output_length);
+
+/* A session's counts as a handover note: the mark 4D D3, then moved and refused as unsigned 32-bit numbers, the least byte first. */
+
+/* Saves the counts in `note`. Every session that feeding and restoring reach from an opened one is saved. Refusals: 8, and 16 for
+ * counts that no session reaches, so that every note that is saved can be restored. */
+uint8_t uldaseong_save(const uint64_t counts[2], uint8_t *note, size_t note_length);
+
+/* Puts the note's numbers in the place of the counts, whatever these are; an older note rewinds them. Refusals: 8, 9, 16. */
+uint8_t uldaseong_restore(uint64_t counts[2], const uint8_t *note, size_t note_length);
 
 /* A position as text by ISO 6709: degrees, minutes and seconds with two decimals, latitude first. +450000.00+0900000.00/ is 45
  * degrees north and 90 east. It has no null byte at its end. */

@@ -15,6 +15,8 @@ pub mod Small
 pub mod Floats
 pub mod Pieces
 pub mod Records
+pub mod Events
+pub mod Notes
 pub mod Statuses
 pub mod Texts
 pub mod Reprojections

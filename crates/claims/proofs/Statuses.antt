@@ -1,6 +1,6 @@
 -- No refusal has the number 0, so that a status of 0 tells.
 use mathlib.Core.List.{List}
-use mathlib.Core.Path.{refl, ap, subst}
+use mathlib.Core.Path.{refl, sym, ap, subst}
 use Prim.Native.Nat.{ℕ}
 use lib.Dec.{T, ltb}
 use Rattle.parallel.specs.Refusal.{Refusal, Outcome, refused, given, OfNumber, unless}
@@ -10,7 +10,9 @@ use Rattle.degrees.specs.Answer.{forwardOf as forwardDegrees, inverseOf as inve
 use Rattle.iso6709.specs.Answer.{readOf, writeOf}
 use Rattle.record.specs.Answer.{convertOf}
 use Rattle.record.proofs.Orders.{pair-numbers}
+use Rattle.note.specs.Answer.{writtenAs, readAs}
 use Rattle.session.specs.Session.{feedOf}
+use Rattle.session.proofs.Handovers.{restored-order}
 use Rattle.uldaseong.specs.Status.{statusOf}
 use Rattle.claims.specs.Interface.{Tells, Interface}
 
@@ -25,7 +27,7 @@ ordered : {A : Type 0} (order : List Refusal) (a : A) → OfNumbers Above0 order
 ordered order a h = tells (unless order a) (unless-number Above0 order a h)
 
 pub interface : Interface
-unfolding forwardOf inverseOf forwardDegrees inverseDegrees convertOf feedOf readOf writeOf
+unfolding forwardOf inverseOf forwardDegrees inverseDegrees convertOf feedOf readOf writeOf writtenAs readAs
 interface =
     record {
       forward = λ kind c l f. ordered _ _ (tt, (tt, (tt, (tt, tt))));
@@ -36,6 +38,8 @@ interface =
       feed = λ session input output. ordered _ _ (tt, (tt, (tt, (tt, pair-numbers Above0 input tt tt tt tt tt tt))));
       read-text = λ text. ordered _ _ (tt, (tt, (tt, (tt, (tt, (tt, tt))))));
       write-text = λ l f room. ordered _ _ (tt, (tt, (tt, tt)));
+      save = λ session room. ordered _ _ (tt, (tt, tt));
+      restore = λ note. subst Tells (sym (restored-order note)) (ordered _ _ (tt, (tt, (tt, tt))));
       pair-given = λ pair first second. refl;
       pair-refused = λ pair n. refl;
       counts-are = λ session. refl;

@@ -19,10 +19,13 @@ use Rattle.angle.specs.Sexagesimal.{signedOf}
 use Rattle.reading.specs.Reading.{centiseconds, units}
 use Rattle.degrees.specs.Answer.{writtenPlace, writtenPosition, forwardOrder as forwardDegreesOrder, inverseOrder as inverseDegreesOrder, forwardOf as forwardDegrees, inverseOf as inverseDegrees}
 use Rattle.iso6709.specs.Answer.{latitudeIn, longitudeIn, positionIn, readOrder, readOf, textOf, writeOrder, writeOf}
+use Rattle.note.specs.Note.{narrow, noteOf, countsIn}
+use Rattle.note.specs.Answer.{writeOrder as saveOrder, readOrder as restoreOrder}
 use Rattle.record.specs.Record.{formIn}
 use Rattle.record.specs.Answer.{pairOf, convertOrder, convertOf, outputAfter}
 use Rattle.session.specs.declared.Session.{Session}
 use Rattle.session.specs.Session.{feedOrder, feedOf}
+use Rattle.session.specs.Handover.{withCounts, saveOf, restoreOf}
 
 -- no condition of an order holds
 abbrev pub None : List Refusal → Type 0
@@ -88,5 +91,11 @@ pub record Demand1 : Type 0 where
   pub write-text : (longitude latitude : ℤ) (room : ℕ) →
       Ordered (writeOf longitude latitude room) (writeOrder longitude latitude room)
       (12 ∷ 5 ∷ 4 ∷ []) (textOf longitude latitude)
+  -- on a session and the length of the piece that is lent for its note, or on the bytes of a note
+  pub save : (session : Session) (room : ℕ) →
+      Ordered (saveOf session room) (saveOrder narrow (session .moved, session .refused) room)
+      (8 ∷ 16 ∷ []) (noteOf narrow (session .moved, session .refused))
+  pub restore : (note : List ℕ) →
+      Ordered (restoreOf note) (restoreOrder narrow note) (8 ∷ 9 ∷ 16 ∷ []) (withCounts (countsIn narrow note))
   -- a refusal leaves the output piece as it was lent, whatever its length
   pub output-kept : (input output : List ℕ) (n : ℕ) → outputAfter input output (refused n) ≡ output

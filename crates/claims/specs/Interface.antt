@@ -13,6 +13,7 @@ use Rattle.iso6709.specs.Answer.{readOf, writeOf}
 use Rattle.record.specs.Answer.{convertOf}
 use Rattle.session.specs.declared.Session.{Session}
 use Rattle.session.specs.Session.{feedOf}
+use Rattle.session.specs.Handover.{saveOf, restoreOf}
 use Rattle.uldaseong.specs.Status.{statusOf, pairAfter, sessionIn, countsOf}
 
 abbrev pub Converted : {A : Type 0} → Outcome A → Type 0
@@ -33,6 +34,8 @@ pub record Interface : Type 0 where
   pub feed : (session : Session) (input : List ℕ) (output : ℕ) → Tells (feedOf session input output)
   pub read-text : (text : List ℕ) → Tells (readOf text)
   pub write-text : (longitude latitude : ℤ) (room : ℕ) → Tells (writeOf longitude latitude room)
+  pub save : (session : Session) (room : ℕ) → Tells (saveOf session room)
+  pub restore : (note : List ℕ) → Tells (restoreOf note)
   -- the lent pair has x and then y, or longitude and then latitude; a refusal leaves it
   pub pair-given : (pair : List ℤ) (first second : ℤ) → pairAfter pair (given (first, second)) ≡ first ∷ second ∷ []
   pub pair-refused : (pair : List ℤ) (n : ℕ) → pairAfter pair (refused n) ≡ pair

@@ -16,6 +16,7 @@ pub mod HouseSine
 pub mod CosineKinds
 pub mod Texts
 pub mod TextExamples
+pub mod Notes
 pub mod Exchange
 pub mod Reprojection
 pub mod ReprojectionExamples

@@ -6,6 +6,7 @@ ghost use Rattle.claims.specs.Examples.{Examples};
 ghost use Rattle.claims.specs.Exchange.{Exchange};
 ghost use Rattle.claims.specs.HouseSine.{HouseSine};
 ghost use Rattle.claims.specs.Interface.{Interface};
+ghost use Rattle.claims.specs.Notes.{Notes};
 ghost use Rattle.claims.specs.Printing.{Printing};
 ghost use Rattle.claims.specs.RecordExample.{RecordExample};
 ghost use Rattle.claims.specs.ReprojectedRuns.{ReprojectedRuns};
@@ -18,5 +19,5 @@ ghost use Rattle.claims.specs.Written.{Written};
 
 // Does nothing. Its `ensures` is the product of all claims.
 pub fn hold()
-    ensures { λ _. ⌜ Demands × Sharp × Examples × RecordExample × Arithmetic × HouseSine × CosineKinds × Written × Printing × Interface × Texts × TextExamples × Exchange × Reprojection × ReprojectionExamples × ReprojectedRuns ⌝ }
+    ensures { λ _. ⌜ Demands × Sharp × Examples × RecordExample × Arithmetic × HouseSine × CosineKinds × Written × Printing × Interface × Texts × TextExamples × Notes × Exchange × Reprojection × ReprojectionExamples × ReprojectedRuns ⌝ }
 {}

@@ -26,14 +26,20 @@ put-part l text at count e =
       holds = rw (d, drop-drop (length text) at l);
     }
 
--- a part of a buffer that is filled with digits
+-- a part of a buffer that is filled, whatever its length
+pub put-filled : (fill : ℕ → List ℕ) → ((k : ℕ) → length (fill k) ≡ k) → (l part : List ℕ) (at count : ℕ) → at + count ≤ length l →
+    part ≡ fill (length (take (at + count - at) (drop at l))) →
+    Put l at (fill count) (at + count) (take at l ++ (part ++ drop (at + count - at) (drop at l)))
+put-filled fill long l part at count h p =
+    let d : at + count - at ≡ count = omega arith in
+    let t : part ≡ fill count = p ∙ rw (mid-len at (at + count) l h, d) in
+    rw t (put-part l (fill count) at count (long count))
+
+-- with digits
 pub put-digits : (l part : List ℕ) (at count n : ℕ) → at + count ≤ length l →
     part ≡ lastDigits (length (take (at + count - at) (drop at l))) n →
     Put l at (lastDigits count n) (at + count) (take at l ++ (part ++ drop (at + count - at) (drop at l)))
-put-digits l part at count n h p =
-    let d : at + count - at ≡ count = omega arith in
-    let t : part ≡ lastDigits count n = p ∙ rw (mid-len at (at + count) l h, d) in
-    rw t (put-part l (lastDigits count n) at count (last-length count n))
+put-digits l part at count n = put-filled (λ (k : ℕ). lastDigits k n) (λ k. last-length k n) l part at count
 
 drop-past : (p q : List ℕ) (m n : ℕ) → length p ≡ m → drop (m + n) (p ++ q) ≡ drop n q
 drop-past p q m n e = subst (λ (k : ℕ). drop (k + n) (p ++ q) ≡ drop n q) e (drop-append-add p q n)

@@ -1,30 +1,25 @@
--- A signed 32-bit number as four bytes, the least first.
+-- A signed 32-bit number as four bytes, the least first: those of its two's complement.
 use mathlib.Core.Bool.{Bool, cond}
 use mathlib.Core.List.{List, [], _∷_, _++_}
-use Prim.Native.Nat.{ℕ, _+_, _*_, _/_, _%_}
+use Prim.Native.Nat.{ℕ, _+_}
 use lib.Dec.{leb}
 use lib.IntN.{ℤ, pos}
 use lib.ListN.{length, getD, take, drop}
 use mir.Syntax.{w32}
 use mir.Val.{toZ, ofZ}
+use Rattle.little_endian.specs.Whole.{wholeOf, leastBytes}
 
--- four bytes as one number below 2 ^ 32, and back
-abbrev pub word : ℕ → ℕ → ℕ → ℕ → ℕ
-word a b c d = a + b * 256 + c * 65536 + d * 16777216
-
-abbrev pub bytesOfWord : ℕ → List ℕ
-bytesOfWord n = n % 256 ∷ n / 256 % 256 ∷ n / 65536 % 256 ∷ n / 16777216 ∷ []
-
--- the four bytes of a signed number, by two's complement
+-- the four bytes of a signed number
 unfoldable pub bytesOf : ℤ → List ℕ
-bytesOf z = bytesOfWord (ofZ w32 z)
+bytesOf z = leastBytes 4 (ofZ w32 z)
 
 -- whether four bytes stand at a place
 abbrev pub hasFour : List ℕ → ℕ → Bool
 hasFour bytes at = leb (at + 4) (length bytes)
 
+-- four bytes at a place as one number below 2 ^ 32
 abbrev pub wordAt : List ℕ → ℕ → ℕ
-wordAt bytes at = word (getD bytes at 0) (getD bytes (at + 1) 0) (getD bytes (at + 2) 0) (getD bytes (at + 3) 0)
+wordAt bytes at = wholeOf (getD bytes at 0 ∷ getD bytes (at + 1) 0 ∷ getD bytes (at + 2) 0 ∷ getD bytes (at + 3) 0 ∷ [])
 
 -- the number at a place; 0 where four bytes do not stand there
 unfoldable pub numberAt : List ℕ → ℕ → ℤ

@@ -1,13 +1,19 @@
-// A signed 32-bit number in bytes, the least byte first, at a place of a lent piece.
+// Numbers in bytes, the least byte first: a signed 32-bit one at a place of a lent piece, and a whole one in as many bytes as a piece has.
 ghost use mathlib.Core.Path.{_≡_};
-ghost use mathlib.Core.List.{_++_};
+ghost use mathlib.Core.List.{[], _∷_, _++_};
 ghost use lib.Dec.{leb};
 ghost use lib.ListN.{length, take, drop};
 ghost use mir.Syntax.{w32};
 ghost use mir.Val.{toZ, ofZ};
 ghost use Prim.Native.Nat.{_+_, _≤_};
-ghost use Rattle.little_endian.specs.Number.{word as wordOf, bytesOfWord, wordAt, hasFour, numberAt, withNumber};
+ghost use Rattle.little_endian.specs.Whole.{wholeOf, leastBytes};
+ghost use Rattle.little_endian.specs.Number.{wordAt, hasFour, numberAt, withNumber};
 use whole::Signed;
+
+mod whole_numbers;
+
+pub use whole_numbers::get_whole;
+pub use whole_numbers::put_whole;
 
 // The number at a place; 0 where four bytes do not stand there.
 pub fn get(bytes: &[u8], at: usize) -> i32
@@ -47,7 +53,7 @@ fn read(bytes: &[u8], at: usize) -> i32
 
 fn write(bytes: &mut [u8], at: usize, n: u32)
     requires { ⌜ at + 4 ≤ length (now bytes) ⌝ }
-    ensures { λ _. ⌜ now (bytes .exit) ≡ take at (now (bytes .entry)) ++ (bytesOfWord n ++ drop (at + 4) (now (bytes .entry))) ⌝ }
+    ensures { λ _. ⌜ now (bytes .exit) ≡ take at (now (bytes .entry)) ++ (leastBytes 4 n ++ drop (at + 4) (now (bytes .entry))) ⌝ }
 {
     bytes[at] = (n % 256) as u8;
     bytes[at + 1] = (n / 256 % 256) as u8;
@@ -57,7 +63,7 @@ fn write(bytes: &mut [u8], at: usize, n: u32)
 
 // Four bytes as one number, the least first.
 fn word(a: u8, b: u8, c: u8, d: u8) -> u32
-    ensures { λ r. ⌜ r ≡ wordOf a b c d ⌝ }
+    ensures { λ r. ⌜ r ≡ wholeOf (a ∷ b ∷ c ∷ d ∷ []) ⌝ }
 {
     a as u32 + b as u32 * 256 + c as u32 * 65536 + d as u32 * 16777216
 }

@@ -34,6 +34,11 @@ abbrev pub andThen : {A B : Type 0} → (A → Outcome B) → Outcome A → Outc
 andThen f (given a) = f a
 andThen f (refused n) = refused n
 
+-- what is given; where the answer is a refusal, what was there before
+abbrev pub orElse : {A : Type 0} → A → Outcome A → A
+orElse before (given a) = a
+orElse before (refused n) = before
+
 -- the first refusal that applies, or else a
 unfoldable pub unless : {A : Type 0} → List Refusal → A → Outcome A
 unless [] a = given a

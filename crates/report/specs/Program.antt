@@ -8,7 +8,7 @@ use Rattle.record.specs.Record.{size}
 use Rattle.record.specs.Records.{recordAt, recordsIn, tailOf}
 use Rattle.session.specs.declared.Session.{Session}
 use Rattle.session.specs.Session.{opened, feedOf, sessionAfter}
-use Rattle.session.specs.History.{Call, sessionOf}
+use Rattle.session.specs.History.{Event, fed, sessionOf}
 use Rattle.lines.specs.Line.{lineOf, closingOf, lineRoom, closingRoom}
 use Rattle.report.specs.Block.{blockSession, blockLines}
 
@@ -50,9 +50,9 @@ TailRefused =
     (t : Session) (tail : List ℕ) → 0 < length tail → length tail < size → endOf t tail ≡ lineOf (refused 8) ++ closingOf t
 
 -- the calls that the first records of an input make, the latest first
-unfoldable pub callsOf : List ℕ → ℕ → List Call
+unfoldable pub callsOf : List ℕ → ℕ → List Event
 callsOf s zero = []
-callsOf s (suc count) = record { input = recordAt s count; output = size } ∷ callsOf s count
+callsOf s (suc count) = fed (record { input = recordAt s count; output = size }) ∷ callsOf s count
 
 -- the counts that are printed are those of the history of all whole records
 abbrev pub SessionOfHistory : Type 0

@@ -1,3 +1,4 @@
 pub mod Orders
 pub mod Counted
 pub mod Histories
+pub mod Handovers

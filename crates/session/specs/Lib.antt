@@ -1,2 +1,3 @@
 pub mod Session
+pub mod Handover
 pub mod History

@@ -7,6 +7,7 @@ use lib.IntN.{ℤ}
 use Rattle.parallel.specs.Refusal.{Refusal, Outcome, refused, given, OfNumber, unless}
 use Rattle.record.specs.Refusal.{badPieces}
 use Rattle.record.specs.Answer.{recordOrder, pairOf}
+use Rattle.note.specs.Note.{cap}
 use Rattle.session.specs.declared.Session.{Session}
 
 -- both counts are 0 when opened
@@ -14,9 +15,6 @@ abbrev pub opened : Session
 opened = record { moved = 0; refused = 0 }
 
 -- from this sum of the counts up, the session is full
-abbrev pub cap : ℕ
-cap = 1000000000
-
 abbrev pub isFull : Session → Bool
 isFull session = leb cap (session .moved + session .refused)
 

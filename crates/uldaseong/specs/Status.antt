@@ -3,6 +3,8 @@ use mathlib.Core.List.{List, [], _∷_}
 use Prim.Native.Nat.{ℕ}
 use lib.ListN.{getD}
 use Rattle.parallel.specs.Refusal.{Outcome, refused, given}
+use Rattle.note.specs.declared.answer.NoteAnswer.{NoteAnswer}
+use Rattle.note.specs.declared.answer.NoteAnswer.the-variants.{Accepted, Refused}
 use Rattle.session.specs.declared.Session.{Session}
 
 -- 0 where the call did what was asked, else the refusal's number
@@ -21,3 +23,8 @@ sessionIn counts = record { moved = getD counts 0 0; refused = getD counts 1 0 }
 
 abbrev pub countsOf : Session → List ℕ
 countsOf session = session .moved ∷ session .refused ∷ []
+
+-- the same number of what saving and restoring are answered
+abbrev pub noteStatus : NoteAnswer → ℕ
+noteStatus Accepted = 0
+noteStatus (Refused n) = n

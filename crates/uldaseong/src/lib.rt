@@ -1,7 +1,8 @@
-// The C interface: forward and inverse on numbers, floats and records, and positions as text, as functions of C, for a static
-// library. A function returns 0 where it did what was asked, and else the refusal's number; then no lent pair, no output piece and
-// no text has changed.
+// The C interface: forward and inverse on numbers, floats and records, positions as text, and a session's handover note, as functions
+// of C, for a static library. A function returns 0 where it did what was asked, and else the refusal's number; then no lent pair, no
+// output piece, no text, no note and no restored session has changed.
 mod floats;
+mod notes;
 mod numbers;
 mod records;
 mod texts;

@@ -24,15 +24,22 @@ pub extern "C" fn uldaseong_feed(counts: &mut [u64; 2], input: &[u8], output: &m
     ensures { λ _. ⌜ now (counts .exit) ≡ countsOf (sessionAfter (sessionIn (now (counts .entry))) (feedOf (sessionIn (now (counts .entry))) (now (input .entry)) (length (now (output .entry))))) ⌝ }
     ensures { λ _. ⌜ now (output .exit) ≡ outputAfter (now (input .entry)) (now (output .entry)) (feedOf (sessionIn (now (counts .entry))) (now (input .entry)) (length (now (output .entry)))) ⌝ }
 {
-    let session = Session {
-        moved: counts[0],
-        refused: counts[1],
-    };
+    let session = session_in(*counts);
     let fed = session.feed(input, output);
     let after = fed.session;
     *counts = [after.moved, after.refused];
     let answer = fed.answer;
     status(answer)
+}
+
+// The session that is lent as these counts.
+pub(crate) fn session_in(counts: [u64; 2]) -> Session
+    ensures { λ r. ⌜ r ≡ sessionIn counts ⌝ }
+{
+    Session {
+        moved: counts[0],
+        refused: counts[1],
+    }
 }
 
 // 0 for a pair, else the refusal's number.

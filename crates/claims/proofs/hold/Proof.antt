@@ -4,7 +4,7 @@ use mathlib.Core.List.{List, [], _∷_}
 use mathlib.Core.Path.{_≡_, refl, sym, _∙_}
 use Prim.Native.Nat.{ℕ, suc, _+_, _*_, _^_, _≤_}
 use native.Mathlib.Omega.{arith}
-use borrow.Author.Tests.{le-leb, leb-true}
+use borrow.Author.Tests.{le-leb}
 use lib.Dec.{T, eqb, le→leb}
 use lib.Ieee.{binary64, div, ofInt, round}
 use lib.Ieee.Back.{round-whole}
@@ -40,10 +40,12 @@ use Rattle.iso6709.specs.Answer.{latitudeIn, longitudeIn, positionIn, readOrder
 use Rattle.record.specs.Record.{recordOf, kindIn, formIn, centralIn, firstIn, secondIn, movedOf}
 use Rattle.record.specs.Records.{recordAt, tailOf}
 use Rattle.record.specs.Answer.{pairOrder, pairOf, convertOrder, convertOf, outputAfter}
-use Rattle.session.specs.Session.{opened, cap, feedOrder, feedOf, sessionAfter}
-use Rattle.session.specs.History.{answersOf, sessionOf}
+use Rattle.note.specs.Note.{cap, narrow, noteOf, countsIn}
+use Rattle.note.specs.Answer.{writeOrder as saveOrder, readOrder as restoreOrder, writtenAs, readAs}
+use Rattle.session.specs.Session.{opened, feedOrder, feedOf, sessionAfter}
+use Rattle.session.specs.Handover.{withCounts}
 use Rattle.session.proofs.Orders.{fed}
-use Rattle.session.proofs.Histories.{answers-alike, agrees}
+use Rattle.session.proofs.Handovers.{restored-order}
 use Rattle.lines.specs.Decimal.{digitsIn, decimalOf, numberText}
 use Rattle.lines.specs.Line.{lineOf, closingOf}
 use Rattle.lines.proofs.Decimals.{is-decimal}
@@ -58,7 +60,6 @@ use Rattle.claims.specs.Demand2.{Demand2, Parallel}
 use Rattle.claims.specs.Demand3.{Demand3, numbers, floats}
 use Rattle.claims.specs.Demands.{Demands}
 use Rattle.claims.specs.RecordLaws.{converting, feeding}
-use Rattle.claims.specs.Histories.{Histories}
 use Rattle.claims.specs.Examples.{Examples, examples}
 use Rattle.claims.specs.RecordExample.{RecordExample, input}
 use Rattle.claims.specs.Printing.{Printing}
@@ -77,6 +78,8 @@ use Rattle.claims.proofs.Calls.{by-numbers}
 use Rattle.claims.proofs.Floats.{floats-by-numbers}
 use Rattle.claims.proofs.Pieces.{converting-answers, feeding-answers}
 use Rattle.claims.proofs.Records.{records-by-numbers}
+use Rattle.claims.proofs.Events.{histories}
+use Rattle.claims.proofs.Notes.{notes}
 use Rattle.claims.proofs.Statuses.{interface}
 use Rattle.claims.proofs.Texts.{texts, text-examples}
 use Rattle.claims.proofs.Exchanges.{exchange, reprojection-examples}
@@ -111,7 +114,7 @@ pair-numbers bytes = go (eqb (formIn bytes) 0) (kindIn bytes) (centralIn bytes) 
     go false kind c u v = refl
 
 refusals : Demand1
-unfolding widthOf forwardOf inverseOf forwardDegrees inverseDegrees convertOf feedOf outputAfter readText writeText rows
+unfolding widthOf forwardOf inverseOf forwardDegrees inverseDegrees convertOf feedOf outputAfter readText writeText writtenAs rows
 refusals =
     record {
       kinds = λ kind. (kind-range kind, kind-in kind);
@@ -128,6 +131,9 @@ refusals =
       feed = λ session input output. ordered (feedOrder session input output) (pairOf input) (rw (pair-numbers input) refl);
       read-text = λ text. ordered (readOrder text) (positionIn (signedOf (longitudeIn text)) (signedOf (latitudeIn text))) refl;
       write-text = λ l f room. ordered (writeOrder l f room) (textOf l f) refl;
+      save = λ session room.
+          let counts : ℕ × ℕ = (session .moved, session .refused) in ordered (saveOrder narrow counts room) (noteOf narrow counts) refl;
+      restore = λ note. rw (restored-order note) (ordered (restoreOrder narrow note) (withCounts (countsIn narrow note)) refl);
       output-kept = λ input output n. refl;
     }
 
@@ -149,18 +155,6 @@ laws-of-numbers =
       forward-back = forward-back;
       sharing = sharing;
       back-forward = back-forward;
-    }
-
-histories : Histories
-unfolding sessionAfter
-histories =
-    record {
-      moved-is = λ calls. agrees calls .moved;
-      refused-is = λ calls. agrees calls .refused;
-      full-from = λ session. let n = session .moved + session .refused in (leb-true cap n, le-leb cap n);
-      kept-by-8 = λ session. refl;
-      kept-by-11 = λ session. refl;
-      answered = λ call earlier. answers-alike (sessionOf earlier) (answersOf earlier) call (agrees earlier);
     }
 
 demands : Demands
@@ -241,7 +235,7 @@ printing =
 
 returns : tie.Need-returns
 returns c =
-    (demands, sharp, worked, record-example, arithmetic, house-sine, cosine-kinds, written, printing, interface, texts, text-examples, exchange, reprojection, reprojection-examples, reprojected-runs)
+    (demands, sharp, worked, record-example, arithmetic, house-sine, cosine-kinds, written, printing, interface, texts, text-examples, notes, exchange, reprojection, reprojection-examples, reprojected-runs)
 
 pub hold-spec : {M : Type 1} → statement M
 hold-spec = tie.close (tie.spec returns)

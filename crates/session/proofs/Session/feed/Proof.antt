@@ -7,7 +7,8 @@ use lib.ListN.{length}
 use Rattle.parallel.proofs.Orders.{Passes}
 use Rattle.record.specs.Refusal.{badPieces}
 use Rattle.record.proofs.Orders.{converted, kept}
-use Rattle.session.specs.Session.{cap, full, sessionAfter, Counts}
+use Rattle.note.specs.Note.{cap}
+use Rattle.session.specs.Session.{full, sessionAfter, Counts}
 use Rattle.session.proofs.Orders.{fed-8, fed-11, fed}
 use Rattle.session.proofs.Counted.{judged-counts}
 use borrow.Author.Needs.{needs}

@@ -4,7 +4,7 @@ use Prim.Native.Nat.{_+_, _-_}
 use native.Mathlib.Omega.{arith}
 use borrow.Author.Tests.{le-leb}
 use Rattle.whole.proofs.Tests.{same-test}
-use Rattle.session.specs.Session.{cap}
+use Rattle.note.specs.Note.{cap}
 use borrow.Author.Needs.{needs}
 use Rattle.session.proofs.Session.is_full.Statement.{statement}
 use Rattle.session.proofs.Session.is_full.Tie as tie

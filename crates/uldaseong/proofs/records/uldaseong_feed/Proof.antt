@@ -7,10 +7,11 @@ use Rattle.uldaseong.proofs.records.uldaseong_feed.Tie as tie
 
 returns : tie.Need-returns
 returns c =
-    let r = c .before .before .before .before .before .feed .ensures in
+    let f = c .before .before .before .before .before in
+    let r = rw (f .before .before .session-in .ensures) at (f .feed .ensures) in
     (c .status .ensures ∙ ap statusOf (r .0), (ap countsOf (r .1 .0), r .1 .1))
 
 pub uldaseong-feed-spec : {M : Type 1} → statement M
 uldaseong-feed-spec =
     tie.close
-    (tie.spec (λ c. search needs) (λ c. search needs) (λ c κs. search needs) (λ c κs. search needs) (λ c. search needs) returns)
+    (tie.spec (λ c κs. search needs) (λ c κs. search needs) (λ c κs. search needs) (λ c. search needs) returns)

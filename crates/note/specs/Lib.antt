@@ -1,0 +1,4 @@
+pub mod Note
+pub mod Form
+pub mod Refusal
+pub mod Answer
