@@ -10,10 +10,10 @@ use lib.ListN.{length, getD}
 use Rattle.whole.specs.declared.Signed.{Signed}
 use Rattle.whole.specs.Signed.{joinOf}
 use Rattle.angle.specs.Sexagesimal.{signedOf}
-use Rattle.parallel.specs.Refusal.{given, refused, badLatitude}
+use Rattle.parallel.specs.Refusal.{given, refused, orElse, badLatitude}
 use Rattle.projection.specs.Refusal.{badLongitude}
 use Rattle.iso6709.specs.Refusal.{badLength, badShape, badSixties, badZero}
-use Rattle.iso6709.specs.Answer.{latitudeIn, longitudeIn, readOrder, readOf, writeOrder, writeOf, textAfter}
+use Rattle.iso6709.specs.Answer.{latitudeIn, longitudeIn, readOrder, readOf, writeOrder, writeOf}
 
 -- the byte at a place, the number of the two digits from a place on, and of three
 abbrev pub byte : List ℕ → ℕ → ℕ
@@ -109,5 +109,5 @@ pub record Texts : Type 0 where
   pub signs : (longitude latitude : ℤ) (text : List ℕ) → writeOf longitude latitude 22 ≡ given text →
       (byte text 0 ≡ signFor latitude) × (byte text 10 ≡ signFor longitude)
   -- a lent text holds what was written, and a refusal leaves it
-  pub text-written : (text bytes : List ℕ) → textAfter text (given bytes) ≡ bytes
-  pub text-kept : (text : List ℕ) (n : ℕ) → textAfter text (refused n) ≡ text
+  pub text-written : (text bytes : List ℕ) → orElse text (given bytes) ≡ bytes
+  pub text-kept : (text : List ℕ) (n : ℕ) → orElse text (refused n) ≡ text

@@ -60,11 +60,7 @@ writeOrder longitude latitude room = badLength room ∷ badLatitude latitude ∷
 unfoldable pub writeOf : ℤ → ℤ → ℕ → Outcome (List ℕ)
 writeOf longitude latitude room = unless (writeOrder longitude latitude room) (textOf longitude latitude)
 
--- the code's answer, and the lent text after it: as it was where the call refused
+-- the code's answer
 abbrev pub answerOf : Outcome (List ℕ) → TextAnswer
 answerOf (given bytes) = Written
 answerOf (refused n) = Refused n
-
-abbrev pub textAfter : List ℕ → Outcome (List ℕ) → List ℕ
-textAfter text (given bytes) = bytes
-textAfter text (refused n) = text

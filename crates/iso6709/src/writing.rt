@@ -7,7 +7,8 @@ ghost use Rattle.digits.specs.Put.{Put};
 ghost use Rattle.angle.specs.Sexagesimal.{sexagesimalOf};
 ghost use Rattle.iso6709.specs.Part.{signOf, minutesOf, partOf};
 ghost use Rattle.shape.specs.Shape.{size};
-ghost use Rattle.iso6709.specs.Answer.{bothOf, writeOf, answerOf, textAfter};
+ghost use Rattle.parallel.specs.Refusal.{orElse};
+ghost use Rattle.iso6709.specs.Answer.{bothOf, writeOf, answerOf};
 use super::answer::TextAnswer;
 use super::layout::END;
 use super::layout::LATITUDE;
@@ -22,7 +23,7 @@ use shape::SIZE;
 // Writes a position's text; or answers the first refusal of 12, 5 and 4, and leaves `text` as it is.
 pub fn write_text(longitude: i32, latitude: i32, text: &mut [u8]) -> TextAnswer
     ensures { λ r. ⌜ r ≡ answerOf (writeOf longitude latitude (length (now (text .entry)))) ⌝ }
-    ensures { λ _. ⌜ now (text .exit) ≡ textAfter (now (text .entry)) (writeOf longitude latitude (length (now (text .entry)))) ⌝ }
+    ensures { λ _. ⌜ now (text .exit) ≡ orElse (now (text .entry)) (writeOf longitude latitude (length (now (text .entry)))) ⌝ }
 {
     if text.len() != SIZE {
         return TextAnswer::Refused(12);

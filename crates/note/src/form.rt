@@ -20,25 +20,30 @@ pub struct Form {
 // The mark's first byte.
 const MARK: u8 = 0x4D;
 
-// The bytes of the mark.
+// The bytes of the mark, and of a number.
 pub(crate) const MARKED: usize = 2;
+
+const NARROW: usize = 4;
+
+// The length of a note.
+pub const SIZE: usize = MARKED + NARROW + NARROW;
 
 // From this sum of its counts up a session is full, and no note has a greater one.
 pub const CAP: u64 = 1_000_000_000;
 
 impl Form {
-    // The form of 10 bytes.
+    // The form of 10 bytes, with numbers of 32 bits.
     pub(crate) fn narrow() -> Form
         ensures { λ r. ⌜ r ≡ narrow ⌝ }
     {
         Form {
             mark: 0xD3,
-            width: 4,
+            width: NARROW,
             cap: CAP,
         }
     }
 
-    // The length of a note.
+    // The length of a note of this form.
     pub(crate) fn size(self) -> usize
         requires { ⌜ Sound self ⌝ }
         ensures { λ r. ⌜ r ≡ sizeOf self ⌝ }

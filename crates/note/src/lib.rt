@@ -6,5 +6,6 @@ mod notes;
 pub use answer::NoteAnswer;
 pub use answer::NoteCounts;
 pub use form::CAP;
+pub use form::SIZE;
 pub use notes::read_note;
 pub use notes::write_note;

@@ -2,6 +2,8 @@
 use super::request::Request;
 use super::text::Text;
 use super::writing::write_answer;
+use super::writing::write_counts;
+use super::writing::write_note_answer;
 use super::writing::write_place;
 use super::writing::write_position;
 use super::writing::write_text_answer;
@@ -12,8 +14,9 @@ use degrees::inverse_degrees;
 use iso6709::read_text;
 use iso6709::write_text;
 use libc::STDOUT_FILENO;
+use note::read_note;
+use note::write_note;
 use parallel::half_width;
-use projection::Answer;
 use projection::forward;
 use projection::inverse;
 use shape::SIZE;
@@ -47,6 +50,12 @@ fn answer_request(request: Request, text: Text) {
         Request::WriteText(longitude, latitude) => {
             answer_by_text(longitude, latitude);
         }
+        Request::SaveNote(moved, refused) => {
+            answer_by_note(moved, refused);
+        }
+        Request::RestoreNote => {
+            answer_note(text);
+        }
         Request::Unreadable => {
             io::write_all(STDOUT_FILENO, b"unreadable");
         }
@@ -70,15 +79,15 @@ fn answer_place(kind: u8, central: f64, x: f64, y: f64) {
 // Answers a text.
 fn answer_text(text: Text) {
     let bytes = text.bytes;
-    write_answer(read_front(&bytes, text.count));
+    write_answer(read_text(front(&bytes, text.count)));
 }
 
-// The position of the text that so many of the bytes are, or all where there are fewer.
-fn read_front(bytes: &[u8], count: usize) -> Answer {
+// So many of the bytes, or all where there are fewer.
+fn front(bytes: &[u8], count: usize) -> &[u8] {
     if count < bytes.len() {
-        read_text(&bytes[..count])
+        &bytes[..count]
     } else {
-        read_text(bytes)
+        bytes
     }
 }
 
@@ -87,4 +96,17 @@ fn answer_by_text(longitude: i32, latitude: i32) {
     let mut text = [0; SIZE];
     let answer = write_text(longitude, latitude, &mut text);
     write_text_answer(answer, &text);
+}
+
+// Answers two counts by their note.
+fn answer_by_note(moved: u64, refused: u64) {
+    let mut note = [0; note::SIZE];
+    let answer = write_note(moved, refused, &mut note);
+    write_note_answer(answer, &note);
+}
+
+// Answers a note.
+fn answer_note(note: Text) {
+    let bytes = note.bytes;
+    write_counts(read_note(front(&bytes, note.count)));
 }

@@ -1,4 +1,6 @@
-// A line of the input, read a byte at a time: a letter, then numbers with spaces between them, or a space and a text.
+// A line of the input, read a byte at a time: a letter, then numbers with spaces between them, or a space and a text, or
+// a space and a note's digits.
+use super::note_byte::NoteByte;
 use super::number::Number;
 use super::request::Request;
 use super::text::Text;
@@ -8,6 +10,9 @@ pub const NONE: u8 = b'\n';
 
 // The letter of a line that has a text.
 const TEXT: u8 = b'p';
+
+// The letter of a line that has a note.
+const NOTE: u8 = b'r';
 
 // The most numbers that a request has.
 const MOST: usize = 4;
@@ -20,7 +25,10 @@ pub struct Line {
     pub number: Number,
     // Whether the numbers so far can begin a request's.
     pub good: bool,
+    // The text, or the bytes of the note.
     pub text: Text,
+    // The byte of the note that is being read.
+    pub byte: NoteByte,
 }
 
 impl Line {
@@ -32,6 +40,7 @@ impl Line {
             number: Number::new(),
             good: true,
             text: Text::new(),
+            byte: NoteByte::new(),
         }
     }
 
@@ -43,6 +52,9 @@ impl Line {
         }
         if self.letter == TEXT {
             return self.with_text_byte(byte);
+        }
+        if self.letter == NOTE {
+            return self.with_note_byte(byte);
         }
         if byte == b' ' {
             return self.with_end();
@@ -59,6 +71,21 @@ impl Line {
         let longer = text.with_byte(byte);
         self.text = longer;
         self
+    }
+
+    // The line with one byte more: the one before its note, or a digit of that.
+    fn with_note_byte(mut self, byte: u8) -> Line {
+        let text = self.text;
+        if !text.begun {
+            return self.with_text_byte(byte);
+        }
+        let read = self.byte;
+        let longer = read.with_digit(byte);
+        self.byte = longer;
+        if longer.half {
+            return self;
+        }
+        self.with_text_byte(longer.value)
     }
 
     // The line with the number that is being read, if there is one, among its numbers.
@@ -79,10 +106,13 @@ impl Line {
         self
     }
 
-    // Whether a number is what comes next: after the kind, 'F' and 'I' ask for floats, and the others for whole numbers.
+    // Whether a number is what comes next: after the kind, 'F' and 'I' ask for floats; 's' asks for counts, and the others for
+    // whole numbers.
     fn takes(self, number: Number) -> bool {
         if 0 < self.count && (self.letter == b'F' || self.letter == b'I') {
             number.is_float()
+        } else if self.letter == b's' {
+            number.is_count()
         } else {
             number.is_whole()
         }
@@ -95,9 +125,10 @@ impl Line {
         if !line.good || line.count != asked(letter) {
             return Request::Unreadable;
         }
-        if letter == TEXT {
+        if letter == TEXT || letter == NOTE {
             let text = line.text;
-            return Request::of_text(text.good);
+            let byte = line.byte;
+            return Request::of_text(letter == NOTE, text.good && byte.can_end());
         }
         let numbers = line.numbers;
         Request::of_numbers(letter, numbers[0], numbers[1], numbers[2], numbers[3])
@@ -107,8 +138,8 @@ impl Line {
 // How many numbers a letter asks for.
 fn asked(letter: u8) -> usize {
     match letter {
-        TEXT => 0,
-        b't' | b'w' => 2,
+        TEXT | NOTE => 0,
+        b's' | b't' | b'w' => 2,
         _ => MOST,
     }
 }

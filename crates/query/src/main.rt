@@ -1,11 +1,13 @@
 // Answers requests from standard input on standard output, a line for each: 'w KIND LATITUDE' by the half-width of a
 // parallel, 'f KIND CENTRAL LONGITUDE LATITUDE' by the place's x and y, 'i KIND CENTRAL X Y' by the position's longitude and
-// latitude, 't LONGITUDE LATITUDE' by the position's text, 'p TEXT' by the text's longitude and latitude, or by 'refused' and
-// the number; any other line by 'unreadable'. Angles are in hundredths of an arcsecond; CENTRAL is the central meridian. 'F'
-// and 'I' ask the same as 'f' and 'i' on floats, in degrees; a float is given and answered by its 64 bits, an 'x' and
-// hexadecimal digits. All other numbers are decimal. TEXT is all that stands behind 'p' and one space.
+// latitude, 't LONGITUDE LATITUDE' by the position's text, 'p TEXT' by the text's longitude and latitude, 's MOVED REFUSED' by
+// the two counts' note, 'r NOTE' by the note's counts, or by 'refused' and the number; any other line by 'unreadable'. Angles
+// are in hundredths of an arcsecond; CENTRAL is the central meridian. 'F' and 'I' ask the same as 'f' and 'i' on floats, in
+// degrees; a float is given and answered by its 64 bits, an 'x' and hexadecimal digits. All other numbers are decimal. TEXT and
+// NOTE are all that stands behind the letter and one space; a note is given and answered by two hexadecimal digits to a byte.
 mod answers;
 mod line;
+mod note_byte;
 mod number;
 mod request;
 mod text;

@@ -60,6 +60,11 @@ impl Number {
         self.good && 0 < self.digits && !self.hexadecimal
     }
 
+    // Whether its bytes are a count, which has no sign.
+    pub(crate) fn is_count(self) -> bool {
+        self.is_whole() && !self.negative
+    }
+
     // Whether its bytes are a float's 64 bits.
     pub(crate) fn is_float(self) -> bool {
         self.good && 0 < self.digits && self.digits <= MOST_DIGITS && self.hexadecimal
@@ -67,7 +72,7 @@ impl Number {
 }
 
 // What a digit counts, and 16 for a byte that is none.
-fn digit_of(byte: u8) -> u64 {
+pub(crate) fn digit_of(byte: u8) -> u64 {
     match byte {
         b'0'..=b'9' => (byte - b'0') as u64,
         b'a'..=b'f' => (byte - b'a') as u64 + 10,

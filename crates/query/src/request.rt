@@ -18,6 +18,10 @@ pub enum Request {
     ReadText,
     // A position's text: longitude and latitude.
     WriteText(i32, i32),
+    // A note of two counts: moved and refused.
+    SaveNote(u64, u64),
+    // The counts in the line's note.
+    RestoreNote,
     Unreadable,
 }
 
@@ -38,16 +42,19 @@ impl Request {
             b'F' => Request::ForwardDegrees(kind, float(second), float(third), float(fourth)),
             b'I' => Request::InverseDegrees(kind, float(second), float(third), float(fourth)),
             b't' => Request::WriteText(narrow(first), narrow(second)),
+            b's' => Request::SaveNote(first.size, second.size),
             _ => Request::Unreadable,
         }
     }
 
-    // The request of a line with a text, good or not.
-    pub(crate) fn of_text(good: bool) -> Request {
-        if good {
-            Request::ReadText
-        } else {
+    // The request of a line with a text or a note, good or not.
+    pub(crate) fn of_text(is_note: bool, good: bool) -> Request {
+        if !good {
             Request::Unreadable
+        } else if is_note {
+            Request::RestoreNote
+        } else {
+            Request::ReadText
         }
     }
 }

@@ -1,7 +1,9 @@
-// The text of a line, read a byte at a time: all bytes behind the letter and one space.
+// The text of a line, read a byte at a time: all bytes behind the letter and one space. A note's bytes are
+// kept as a text is.
 use shape::SIZE;
 
-// The bytes that are kept: one more than a text that can be read has, by which a longer one is told.
+// The bytes that are kept: one more than a text that can be read has, by which a longer one is told. A
+// note that can be read is shorter.
 const KEPT: usize = SIZE + 1;
 
 pub struct Text {

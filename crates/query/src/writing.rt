@@ -5,6 +5,8 @@ use degrees::DegreesAnswer;
 use degrees::FloatAnswer;
 use iso6709::TextAnswer;
 use libc::STDOUT_FILENO;
+use note::NoteAnswer;
+use note::NoteCounts;
 use parallel::Width;
 use projection::Answer;
 use whole::Signed;
@@ -69,6 +71,42 @@ pub(crate) fn write_text_answer(answer: TextAnswer, text: &[u8]) {
             write_refusal(n);
         }
     }
+}
+
+// Writes a note, unless it is refused.
+pub(crate) fn write_note_answer(answer: NoteAnswer, note: &[u8]) {
+    match answer {
+        NoteAnswer::Accepted => {
+            write_bytes(note);
+        }
+        NoteAnswer::Refused(n) => {
+            write_refusal(n);
+        }
+    }
+}
+
+pub(crate) fn write_counts(counts: NoteCounts) {
+    match counts {
+        NoteCounts::Counts(moved, refused) => {
+            io::print_decimal(STDOUT_FILENO, moved);
+            io::write_all(STDOUT_FILENO, b" ");
+            io::print_decimal(STDOUT_FILENO, refused);
+        }
+        NoteCounts::Refused(n) => {
+            write_refusal(n);
+        }
+    }
+}
+
+// Bytes by two hexadecimal digits each.
+fn write_bytes(bytes: &[u8]) {
+    for i in 0..bytes.len() {
+        write_byte(bytes[i]);
+    }
+}
+
+fn write_byte(byte: u8) {
+    io::print_hex(STDOUT_FILENO, byte as u64, 2);
 }
 
 fn write_refusal(n: u8) {

@@ -1,5 +1,5 @@
-//! Document 01's rules and document 02's orders 1, 2 and 5 once more, with no code of the product, and inputs for them: at every
-//! edge, and at random from a seed.
+//! Document 01's rules and document 02's orders 1, 2, 3 and 5 once more, with no code of the product, and inputs for them: at
+//! every edge, and at random from a seed.
 pub mod arcminutes;
 pub mod edges;
 pub mod float;
@@ -8,6 +8,8 @@ pub mod float_random;
 pub mod float_requests;
 pub mod halves;
 pub mod map;
+pub mod note_request;
+pub mod note_requests;
 pub mod record;
 pub mod record_cases;
 pub mod record_random;

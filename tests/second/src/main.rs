@@ -1,5 +1,5 @@
-//! The second program: document 01's rules and document 02's orders 1, 2 and 5 once more, with no code of the product. `second
-//! requests` writes requests for the program `query`, and `second answers` reads such requests and writes what is to be
+//! The second program: document 01's rules and document 02's orders 1, 2, 3 and 5 once more, with no code of the product.
+//! `second requests` writes requests for the program `query`, and `second answers` reads such requests and writes what is to be
 //! answered. `second random SEED ROUNDS` writes more requests on floats than the stored ones.
 //!
 //! `second convert` and `second reproject` do what the programs of these names do. `second records` and `second old-records`
@@ -7,6 +7,7 @@
 //! of text, and `second old-stations` the same stations on the old rows. `second random-records SEED COUNT` writes more
 //! records than the stored ones.
 use second::map::Answer;
+use second::note_request::NoteRequest;
 use second::record_cases::joined;
 use second::request::{bits, Request};
 use second::requests::texts;
@@ -71,6 +72,9 @@ fn answers(text: &[u8]) -> String {
 
 fn answer(line: &[u8]) -> String {
     if let Some(request) = TextRequest::read(line) {
+        return request.answer();
+    }
+    if let Some(request) = NoteRequest::read(line) {
         return request.answer();
     }
     let Some(request) = Request::read(&String::from_utf8_lossy(line)) else {

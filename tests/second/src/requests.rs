@@ -1,9 +1,10 @@
-//! Requests over every kind and every edge that document 01 names, on text, and some thousand at random from a fixed seed.
+//! Requests over every kind and every edge that document 01 names, on text, on notes, and some thousand at random from a fixed seed.
 use crate::arcminutes;
 use crate::edges;
 use crate::float_requests;
 use crate::map::{row_latitude, row_width, row_y};
 use crate::map::{HALF_TURN, RIGHT_ANGLE};
+use crate::note_requests;
 use crate::request::Request;
 use crate::table::{row_of, KINDS};
 use crate::text_requests;
@@ -24,6 +25,7 @@ pub fn all() -> Vec<u8> {
     lines.extend(float_requests::all());
     let mut lines: Vec<Vec<u8>> = lines.into_iter().map(String::into_bytes).collect();
     lines.extend(text_requests::all());
+    lines.extend(note_requests::all());
     // the last line has no end of its own
     lines.push(width(2, 72 * DEGREE).to_string().into_bytes());
     lines.join(&b'\n')

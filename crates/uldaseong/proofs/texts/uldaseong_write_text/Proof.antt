@@ -9,10 +9,10 @@ use lib.ListN.{length}
 use mir.Syntax.{w32}
 use mir.Val.{SFits, toZ, ofZ}
 use mir.Facts.{toZ-ofZ}
-use Rattle.parallel.specs.Refusal.{Outcome, refused, given}
+use Rattle.parallel.specs.Refusal.{Outcome, refused, given, orElse}
 use Rattle.iso6709.specs.declared.answer.TextAnswer.{TextAnswer}
 use Rattle.iso6709.specs.declared.answer.TextAnswer.the-variants.{Written, Refused}
-use Rattle.iso6709.specs.Answer.{writeOf, answerOf, textAfter}
+use Rattle.iso6709.specs.Answer.{writeOf, answerOf}
 use Rattle.uldaseong.specs.Status.{statusOf}
 use Rattle.uldaseong.proofs.texts.uldaseong_write_text.Statement.{statement}
 use Rattle.uldaseong.proofs.texts.uldaseong_write_text.Tie as tie
@@ -28,9 +28,9 @@ status-is (refused n) = refl
 
 -- the call's two promises, of the numbers as they were handed in, and the case found
 told : (longitude latitude : ℤ) (text text′ : List ℕ) {answer case : TextAnswer} → SFits w32 longitude → SFits w32 latitude →
-    (let o = writeOf (toZ w32 (ofZ w32 longitude)) (toZ w32 (ofZ w32 latitude)) (length text) in (answer ≡ answerOf o) × (text′ ≡ textAfter text o)) →
+    (let o = writeOf (toZ w32 (ofZ w32 longitude)) (toZ w32 (ofZ w32 latitude)) (length text) in (answer ≡ answerOf o) × (text′ ≡ orElse text o)) →
     answer ≡ case →
-    let o = writeOf longitude latitude (length text) in (numberOf case ≡ statusOf o) × (text′ ≡ textAfter text o)
+    let o = writeOf longitude latitude (length text) in (numberOf case ≡ statusOf o) × (text′ ≡ orElse text o)
 told longitude latitude text text′ f g e k =
     let d = rw (toZ-ofZ f, toZ-ofZ g) at e in
     (ap numberOf (sym k ∙ d .0) ∙ status-is (writeOf longitude latitude (length text)), d .1)
