@@ -2,7 +2,7 @@
  * Calls every function of the C interface on seeded random input, with each lent piece of memory between two pages that
  * may be neither read nor written, so that a byte too far ends the run. It holds the answers to what must be so of every
  * call: a refusal leaves what was lent as it was, a moved record is accepted again, a session's counts add up, and a text
- * and its position come back as they were.
+ * and its position, a note and its counts come back as they were.
  */
 #include <stdio.h>
 #include <stdlib.h>
@@ -16,8 +16,9 @@
 #define LONGEST 40
 
 /* The statuses that a call may have, a bit for each: of positions as numbers and as floats, of two pieces that are not both of
- * 16 bytes, of a record, and of one that is fed to a session; of a position that is written as text, of a piece for it that is
- * not of 22 bytes, and of a text that is read. */
+ * 16 bytes, or one for a note that is not of 10, of a record, and of one that is fed to a session; of a position that is written
+ * as text, of a piece for it that is not of 22 bytes, and of a text that is read; of counts that are saved, and of a note that is
+ * restored. */
 enum {
     NUMBERS = 1 << 0 | 1 << 1 | 1 << 3 | 1 << 4 | 1 << 5,
     FLOATS = NUMBERS | 1 << 2,
@@ -27,6 +28,8 @@ enum {
     WRITTEN = 1 << 0 | 1 << 4 | 1 << 5,
     TEXT_PIECE = 1 << 12,
     READ = WRITTEN | 1 << 13 | 1 << 14 | 1 << 15,
+    SAVED = 1 << 0 | 1 << 16,
+    RESTORED = SAVED | 1 << 9,
 };
 
 static size_t page;
@@ -41,6 +44,14 @@ static uint8_t *guarded(void) {
     return pages + page;
 }
 
+/* Lets a page be read only, or written again. */
+static void protect(uint8_t *guard, int how) {
+    if (mprotect(guard, page, how) != 0) {
+        perror("a page to read only");
+        exit(2);
+    }
+}
+
 /* A piece of a guarded page that begins where it begins, or ends where it ends. */
 static void *lend(uint8_t *guard, size_t length) { return random_below(2) ? guard : guard + page - length; }
 
@@ -52,7 +63,7 @@ static void hold(int fact, const char *what) {
 }
 
 static void hold_status(uint8_t status, int allowed) {
-    hold(status <= 15 && (allowed >> status & 1) != 0, "a status that the call does not have");
+    hold(status <= 16 && (allowed >> status & 1) != 0, "a status that the call does not have");
 }
 
 /* Refusal 1 comes before all others of a call on numbers or floats. */
@@ -135,10 +146,10 @@ static void call_feed(uint64_t *counts, uint8_t *in, uint8_t *out) {
     hold((status == 11) == (length == ULDASEONG_RECORD && moved + refused >= 1000000000), "a full session");
 }
 
-/* Mostly that of a text, and else short, or anything up to a page. */
-static size_t text_length(void) {
+/* Mostly the right one, and else short, or anything up to a page. */
+static size_t some_length(size_t right) {
     if (random_below(8) != 0)
-        return ULDASEONG_TEXT;
+        return right;
     return random_below(16) ? random_below(LONGEST + 1) : random_below((uint32_t)page + 1);
 }
 
@@ -146,12 +157,12 @@ static size_t text_length(void) {
 static void hold_rest(const uint8_t *guard, const uint8_t *before, const void *piece, size_t length) {
     size_t at = (size_t)((const uint8_t *)piece - guard), end = at + length;
     hold(memcmp(guard, before, at) == 0 && memcmp(guard + end, before + end, page - end) == 0,
-         "a call on text changed what it was not to change");
+         "a call changed what it was not to change");
 }
 
 /* Answers the status' bit. */
 static int call_read_text(uint8_t *in, uint8_t *out, uint8_t *in_before, uint8_t *out_before) {
-    size_t length = text_length();
+    size_t length = some_length(ULDASEONG_TEXT);
     uint8_t *text = lend(in, length), again[ULDASEONG_TEXT];
     int32_t *pair = lend(out, 8);
     random_text(text, length);
@@ -170,7 +181,7 @@ static int call_read_text(uint8_t *in, uint8_t *out, uint8_t *in_before, uint8_t
 
 /* Answers the status' bit. */
 static int call_write_text(uint8_t *out, uint8_t *before) {
-    size_t length = text_length();
+    size_t length = some_length(ULDASEONG_TEXT);
     uint8_t *text = lend(out, length);
     int32_t longitude = random_angle(64800000), latitude = random_angle(32400000), pair[2];
     memcpy(before, out, page);
@@ -199,6 +210,68 @@ static void call_texts(long rounds, uint8_t *in, uint8_t *out) {
     free(out_before);
 }
 
+/* Holds that counts, or those of a note, are refused exactly if they add to more than a note may have. */
+static void hold_sum(uint8_t status, uint64_t moved, uint64_t refused) {
+    int more = moved > 1000000000 || refused > 1000000000 || moved + refused > 1000000000;
+    hold((status == 16) == more, "a sum that is refused, or that is not");
+}
+
+/* The counts stand in a page that may only be read. Answers the status' bit. */
+static int call_save(uint8_t *in, uint8_t *out, uint8_t *before) {
+    size_t length = some_length(ULDASEONG_NOTE);
+    uint64_t *counts = lend(in, 16), again[2] = {random_number(), random_number()};
+    uint8_t *note = lend(out, length);
+    random_counts(counts);
+    memcpy(before, out, page);
+    protect(in, PROT_READ);
+    uint8_t status = uldaseong_save(counts, note, length);
+    protect(in, PROT_READ | PROT_WRITE);
+    hold_status(status, length == ULDASEONG_NOTE ? SAVED : PIECES);
+    hold_rest(out, before, note, status == 0 ? length : 0);
+    if (length == ULDASEONG_NOTE)
+        hold_sum(status, counts[0], counts[1]);
+    if (status == 0) {
+        hold(uldaseong_restore(again, note, length) == 0, "a note that was saved is refused");
+        hold(memcmp(again, counts, sizeof again) == 0, "counts come back as others");
+    }
+    return 1 << status;
+}
+
+/* The note stands in a page that may only be read. Answers the status' bit. */
+static int call_restore(uint8_t *in, uint8_t *out, uint8_t *before) {
+    size_t length = some_length(ULDASEONG_NOTE);
+    uint64_t *counts = lend(out, 16);
+    uint8_t *note = lend(in, length), again[ULDASEONG_NOTE];
+    random_note(note, length);
+    random_counts(counts);
+    memcpy(before, out, page);
+    protect(in, PROT_READ);
+    uint8_t status = uldaseong_restore(counts, note, length);
+    protect(in, PROT_READ | PROT_WRITE);
+    hold_status(status, length == ULDASEONG_NOTE ? RESTORED : PIECES);
+    hold_rest(out, before, counts, status == 0 ? 16 : 0);
+    if (status == 0) {
+        hold_sum(status, counts[0], counts[1]);
+        hold(uldaseong_save(counts, again, sizeof again) == 0, "counts that were restored are refused");
+        hold(memcmp(again, note, sizeof again) == 0, "a note comes back as another one");
+    }
+    return 1 << status;
+}
+
+/* Every status is to be seen, as of texts. */
+static void call_notes(long rounds, uint8_t *in, uint8_t *out) {
+    uint8_t *before = malloc(page);
+    int saved = 0, restored = 0;
+    hold(before != NULL, "memory for a page");
+    for (long i = 0; i < rounds; i++) {
+        saved |= call_save(in, out, before);
+        restored |= call_restore(in, out, before);
+    }
+    hold(saved == (SAVED | PIECES), "a status that no counts had that were saved");
+    hold(restored == (RESTORED | PIECES), "a status that no note had that was restored");
+    free(before);
+}
+
 int main(int count, char **words) {
     long rounds = count > 1 ? atol(words[1]) : 1000000;
     page = (size_t)sysconf(_SC_PAGESIZE);
@@ -215,5 +288,7 @@ int main(int count, char **words) {
     }
     hold(rounds > 0 && counts[0] + counts[1] == 1000000000, "a session that is full in the end");
     call_texts(rounds, in, out);
+    /* fewer, since a page that is to be read only costs more than a call */
+    call_notes((rounds + 3) / 4, in, out);
     return 0;
 }

@@ -84,3 +84,23 @@ void random_text(uint8_t *piece, size_t length) {
     *put_angle(put_angle(text, 2, 90), 3, 180) = '/';
     lay(piece, length, text, sizeof text);
 }
+
+void random_counts(uint64_t counts[2]) {
+    uint64_t sum = random_below(2) ? random_below(1000000001) : 999999998 + random_below(5);
+    counts[0] = random_number() % (sum + 1);
+    counts[1] = sum - counts[0];
+    if (random_below(8) == 0)
+        counts[random_below(2)] = random_number() >> random_below(64);
+    /* often a sum past 64 bits */
+    if (random_below(8) == 0)
+        counts[0] -= counts[1] + random_below(2);
+}
+
+void random_note(uint8_t *piece, size_t length) {
+    uint8_t note[ULDASEONG_NOTE] = {0x4D, 0xD3};
+    uint64_t counts[2];
+    random_counts(counts);
+    put(note + 2, (int64_t)counts[0]);
+    put(note + 6, (int64_t)counts[1]);
+    lay(piece, length, note, sizeof note);
+}

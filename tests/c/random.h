@@ -1,4 +1,4 @@
-/* A seeded generator of numbers, and of records and texts: good, damaged, and bytes at random. */
+/* A seeded generator of numbers, and of records, texts and notes: good, damaged, and bytes at random. */
 #ifndef RANDOM_H
 #define RANDOM_H
 
@@ -24,5 +24,11 @@ void random_piece(uint8_t *piece, size_t length);
 
 /* Fills a piece likewise with the text of a position near the map, zeros and too many minutes or seconds among them. */
 void random_text(uint8_t *piece, size_t length);
+
+/* Two counts: mostly such as a note may have, often about the greatest sum, and else any. */
+void random_counts(uint64_t counts[2]);
+
+/* Fills a piece likewise with the note of such counts. */
+void random_note(uint8_t *piece, size_t length);
 
 #endif

@@ -8,6 +8,9 @@ pub mod float_random;
 pub mod float_requests;
 pub mod halves;
 pub mod map;
+pub mod note;
+pub mod note_cases;
+pub mod note_random;
 pub mod note_request;
 pub mod note_requests;
 pub mod record;
@@ -30,7 +33,7 @@ pub mod text_requests;
 pub mod wide;
 
 /// Stops where the second program has something else than the documents' table and record, another half-width of kinds 3 and 4,
-/// another sine, or another text.
+/// another sine, another text, or another note.
 pub fn check() {
     sine::check();
     table::check();
@@ -38,4 +41,6 @@ pub fn check() {
     record::check();
     reproject::check();
     text::check();
+    note::check();
+    note_cases::check();
 }

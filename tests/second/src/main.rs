@@ -1,6 +1,6 @@
 //! The second program: document 01's rules and document 02's orders 1, 2, 3 and 5 once more, with no code of the product.
-//! `second requests` writes requests for the program `query`, and `second answers` reads such requests and writes what is to be
-//! answered. `second random SEED ROUNDS` writes more requests on floats than the stored ones.
+//! `second requests` writes requests for the program `query`, and `second answers` reads such requests and writes what is to
+//! be answered. `second random SEED ROUNDS` writes more requests on floats than the stored ones.
 //!
 //! `second convert` and `second reproject` do what the programs of these names do. `second records` and `second old-records`
 //! write their stored inputs; `second refusals`, `second retired` and `second stations` those of small runs, the last from lines

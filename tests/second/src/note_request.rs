@@ -1,12 +1,7 @@
 //! A request of the program `query` on notes: its line, and what is to be answered.
+use crate::note::NOTE;
 use crate::request::{all, whole};
-use crate::session::FULL;
-
-/// The bytes that a note begins with.
-pub const MARK: [u8; 2] = [0x4d, 0xd3];
-
-/// The bytes of a note.
-pub const LENGTH: usize = 10;
+use crate::session::Session;
 
 /// Two counts to save, moved and refused, or a note to restore, of any bytes.
 pub enum NoteRequest {
@@ -28,9 +23,15 @@ impl NoteRequest {
 
     pub fn answer(&self) -> String {
         let answer = match self {
-            NoteRequest::Save(counts) => saved(*counts).map(|note| digits(&note)),
+            NoteRequest::Save(counts) => {
+                let [moved, refused] = counts.map(held);
+                let note = NOTE.save(&Session { moved, refused }, NOTE.length());
+                note.map(|note| digits(&note))
+            }
             NoteRequest::Restore(note) => {
-                restored(note).map(|[moved, refused]| format!("{moved} {refused}"))
+                let mut session = Session::default();
+                let restored = NOTE.restore(&mut session, note);
+                restored.map(|()| format!("{} {}", session.moved, session.refused))
             }
         };
         answer.unwrap_or_else(|number| format!("refused {number}"))
@@ -43,6 +44,11 @@ impl NoteRequest {
             NoteRequest::Restore(note) => format!("r {}", digits(note)),
         }
     }
+}
+
+/// A count in 64 bits, or the greatest that they hold.
+fn held(count: i128) -> u64 {
+    u64::try_from(count).unwrap_or(u64::MAX)
 }
 
 /// A whole number without a sign.
@@ -64,32 +70,4 @@ fn bytes(digits: &[u8]) -> Option<Vec<u8>> {
     let value = |digit: u8| char::from(digit).to_digit(16);
     let byte = |&[high, low]: &[u8; 2]| Some((16 * value(high)? + value(low)?) as u8);
     pairs.iter().map(byte).collect()
-}
-
-/// The note of two counts, or the number of the refusal.
-fn saved(counts: [i128; 2]) -> Result<Vec<u8>, u8> {
-    if is_past(counts) {
-        return Err(16);
-    }
-    let [moved, refused] = counts.map(|count| (count as u32).to_le_bytes());
-    Ok([&MARK[..], &moved, &refused].concat())
-}
-
-/// The counts in a note, or the number of the refusal.
-fn restored(note: &[u8]) -> Result<[i128; 2], u8> {
-    let note: &[u8; LENGTH] = note.try_into().map_err(|_| 8)?;
-    let [first, second, a, b, c, d, e, f, g, h] = *note;
-    if [first, second] != MARK {
-        return Err(9);
-    }
-    let counts = [[a, b, c, d], [e, f, g, h]].map(|bytes| u32::from_le_bytes(bytes).into());
-    if is_past(counts) {
-        return Err(16);
-    }
-    Ok(counts)
-}
-
-/// Whether no session has as many records counted.
-fn is_past([moved, refused]: [i128; 2]) -> bool {
-    moved + refused > FULL as i128
 }

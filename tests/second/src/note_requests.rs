@@ -1,7 +1,8 @@
 //! Requests on notes: every edge that document 02's order 3 names, and some hundred at random from a fixed seed.
-use crate::note_request::{NoteRequest, LENGTH, MARK};
+use crate::note::NOTE;
+use crate::note_cases::marked;
+use crate::note_request::NoteRequest;
 use crate::requests::{below, next, seeded};
-use crate::session::FULL;
 
 /// Counts about the greatest sum, and about what a number of 32 or of 64 bits holds.
 const COUNTS: [i128; 11] = [
@@ -46,7 +47,7 @@ const PARTS: [u32; 8] = [
 
 /// Marks that are none but the first.
 const MARKS: [[u8; 2]; 12] = [
-    MARK,
+    NOTE.mark,
     [0x4d, 0xd2],
     [0x4d, 0xd4],
     [0xd3, 0x4d],
@@ -64,7 +65,7 @@ const MARKS: [[u8; 2]; 12] = [
 const NO_DIGITS: &[u8] = b"/:@G`g xX-+\t\r\0\x7f\x80\xff";
 
 /// A note with every sort of digit in it, 287,454,020 and 713 counted.
-const GOOD: &[u8; 2 * LENGTH] = b"4dd344332211c9020000";
+const GOOD: &[u8; 20] = b"4dd344332211c9020000";
 
 /// Lines, each without its end.
 pub fn all() -> Vec<Vec<u8>> {
@@ -82,8 +83,7 @@ pub fn all() -> Vec<Vec<u8>> {
 
 /// Two numbers behind a mark.
 fn note(mark: [u8; 2], counts: [u32; 2]) -> Vec<u8> {
-    let [moved, refused] = counts.map(u32::to_le_bytes);
-    [&mark[..], &moved, &refused].concat()
+    marked(mark, &NOTE.bytes(counts.map(u128::from)))
 }
 
 /// Two counts, both ways round.
@@ -95,7 +95,7 @@ fn both_ways([first, second]: [u32; 2]) -> [[u32; 2]; 2] {
 fn about_the_greatest() -> Vec<[u32; 2]> {
     let mut pairs = Vec::new();
     for part in PARTS {
-        let rest = FULL as u32 - part;
+        let rest = NOTE.cap as u32 - part;
         for other in [rest.saturating_sub(1), rest, rest + 1] {
             pairs.extend(both_ways([part, other]));
         }
@@ -117,7 +117,7 @@ fn restores() -> Vec<NoteRequest> {
     for moved in NARROW {
         pairs.extend(NARROW.map(|refused| [moved, refused]));
     }
-    let notes = pairs.into_iter().map(|pair| note(MARK, pair));
+    let notes = pairs.into_iter().map(|pair| note(NOTE.mark, pair));
     notes.map(NoteRequest::Restore).collect()
 }
 
@@ -137,12 +137,12 @@ fn random() -> Vec<NoteRequest> {
     let mut requests = Vec::new();
     let mut state = seeded(20_260_107);
     for _ in 0..40 {
-        let moved = below(&mut state, 1 + FULL as u64) as u32;
-        let refused = below(&mut state, 1 + FULL as u64 - u64::from(moved)) as u32;
+        let moved = below(&mut state, 1 + NOTE.cap as u64) as u32;
+        let refused = below(&mut state, 1 + NOTE.cap as u64 - u64::from(moved)) as u32;
         requests.push(NoteRequest::Save([moved.into(), refused.into()]));
-        let mut note = note(MARK, [moved, refused]);
+        let mut note = note(NOTE.mark, [moved, refused]);
         requests.push(NoteRequest::Restore(note.clone()));
-        note[below(&mut state, LENGTH as u64) as usize] = next(&mut state) as u8;
+        note[below(&mut state, NOTE.length() as u64) as usize] = next(&mut state) as u8;
         requests.push(NoteRequest::Restore(note));
         // of any size
         let wide = [0, 1].map(|_| next(&mut state) >> below(&mut state, 64));

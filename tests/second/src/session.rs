@@ -13,6 +13,11 @@ pub struct Session {
 }
 
 impl Session {
+    /// Moved, then refused.
+    pub fn counts(&self) -> [u64; 2] {
+        [self.moved, self.refused]
+    }
+
     /// The moved record, or the number of the refusal. 8 and 11 are not counted.
     pub fn feed(&mut self, piece: &[u8]) -> Result<Record, u8> {
         let piece: &[u8; LENGTH] = piece.try_into().map_err(|_| 8)?;

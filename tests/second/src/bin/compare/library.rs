@@ -32,6 +32,8 @@ extern "C" {
         output: *mut u8,
         output_length: usize,
     ) -> u8;
+    fn uldaseong_save(counts: *const u64, note: *mut u8, note_length: usize) -> u8;
+    fn uldaseong_restore(counts: *mut u64, note: *const u8, note_length: usize) -> u8;
     fn uldaseong_read_text(text: *const u8, text_length: usize, position: *mut i32) -> u8;
     fn uldaseong_write_text(longitude: i32, latitude: i32, text: *mut u8, text_length: usize)
         -> u8;
@@ -71,6 +73,16 @@ pub fn feed(lent: &mut Lent) -> u8 {
     let counts = middle(&mut lent.counts);
     let [(input, input_length), (output, output_length)] = lent.pieces();
     unsafe { uldaseong_feed(counts, input, input_length, output, output_length) }
+}
+
+pub fn save(counts: &mut [u64; 4], note: &mut Piece) -> u8 {
+    let (note, note_length) = note.lend();
+    unsafe { uldaseong_save(middle(counts), note, note_length) }
+}
+
+pub fn restore(counts: &mut [u64; 4], note: &mut Piece) -> u8 {
+    let (note, note_length) = note.lend();
+    unsafe { uldaseong_restore(middle(counts), note, note_length) }
 }
 
 pub fn read_text(text: &mut Piece, lent: &mut [i32; 4]) -> u8 {

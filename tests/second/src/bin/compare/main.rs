@@ -4,8 +4,11 @@
 mod convert;
 mod floats;
 mod halves;
+mod histories;
 mod lent;
 mod library;
+mod note_calls;
+mod notes;
 mod numbers;
 mod pairs;
 mod part;
@@ -25,7 +28,7 @@ use std::process::ExitCode;
 /// A part's name, its comparison from a seed, and every number that is to be given: 0 and the refusals.
 type Named = (&'static str, fn(&mut Part, u64), &'static [u8]);
 
-const PARTS: [Named; 16] = [
+const PARTS: [Named; 20] = [
     ("forward on numbers", numbers::forward, &[0, 1, 3, 4, 5]),
     ("inverse on numbers", numbers::inverse, &[0, 1, 3, 6, 7]),
     ("numbers handed on", numbers::handed_on, &[0]),
@@ -37,6 +40,10 @@ const PARTS: [Named; 16] = [
     ("records handed on", records::handed_on, &[0]),
     ("sessions about full", sessions::about_full, &CAPPED),
     ("runs of a session", sessions::runs, &CAPPED),
+    ("notes saved", notes::saved, &[0, 8, 16]),
+    ("notes restored", notes::restored, &[0, 8, 9, 16]),
+    ("notes handed on", notes::handed_on, &[0]),
+    ("histories of a session", histories::compare, &EVENTS),
     ("text written", texts::written, &[0, 4, 5, 12]),
     ("text read", texts::read, &[0, 4, 5, 12, 13, 14, 15]),
     ("text handed on", texts::handed_on, &[0]),
@@ -44,9 +51,10 @@ const PARTS: [Named; 16] = [
     ("program reproject", reproject::compare, &REPROJECTED),
 ];
 
-/// What a call on a record gives without a session, and in one.
+/// What a call on a record gives without a session, and in one; and what the events of a session give.
 const UNCAPPED: [u8; 10] = [0, 1, 3, 4, 5, 6, 7, 8, 9, 10];
 const CAPPED: [u8; 11] = [0, 1, 3, 4, 5, 6, 7, 8, 9, 10, 11];
+const EVENTS: [u8; 12] = [0, 1, 3, 4, 5, 6, 7, 8, 9, 10, 11, 16];
 
 /// What becomes of the pieces that `reproject` reads: 0 where a place is taken.
 const REPROJECTED: [u8; 9] = [0, 3, 6, 7, 8, 9, 10, A_POSITION, OTHER_KIND];

@@ -31,6 +31,11 @@ impl Part {
     pub fn count(&mut self, given: u8, difference: Option<String>) {
         self.inputs += 1;
         self.given.insert(given);
+        self.hold(difference);
+    }
+
+    /// Takes in what else differs after calls, if anything does.
+    pub fn hold(&mut self, difference: Option<String>) {
         if let Some(difference) = difference {
             self.differing += 1;
             if self.differing == 1 {
@@ -45,7 +50,7 @@ impl Part {
         let given: Vec<u8> = self.given.iter().copied().collect();
         if differing > 0 {
             Err(format!(
-                "{differing} of {inputs} inputs differ, first {first}"
+                "{differing} differences in {inputs} inputs, first {first}"
             ))
         } else if given != numbers {
             Err(format!(

@@ -22,8 +22,8 @@ pub const FEED: Call = Call {
 };
 
 impl Call {
-    /// Compares the number that is given and all that was lent. Gives the latter.
-    pub fn compare(&self, part: &mut Part, before: Lent) -> Lent {
+    /// Compares the number that is given and all that was lent. Gives both.
+    pub fn compare(&self, part: &mut Part, before: Lent) -> (u8, Lent) {
         let mut lent = before.clone();
         let given = (self.library)(&mut lent);
         let (should, after) = (self.rule)(&before);
@@ -33,7 +33,7 @@ impl Call {
             format!("{before}: answered {given}{answered}, should be {should}{right}")
         };
         part.count(given, (!same).then(difference));
-        lent
+        (given, lent)
     }
 }
 

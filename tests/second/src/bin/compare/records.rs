@@ -49,6 +49,7 @@ fn by_turns(part: &mut Part, record: &[u8]) {
     let mut bytes = record.to_vec();
     for call in [CONVERT, FEED, FEED, CONVERT] {
         let lent = Lent::new(part, [0; 2], &bytes, LENGTH);
-        bytes = call.compare(part, lent).output.bytes().to_vec();
+        let (_, lent) = call.compare(part, lent);
+        bytes = lent.output.bytes().to_vec();
     }
 }

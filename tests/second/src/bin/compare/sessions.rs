@@ -19,7 +19,7 @@ fn about(numbers: &[u128]) -> Vec<u128> {
 }
 
 /// Counts whose sum is about the cap, or would be below it if it were cut to 32 or to 64 bits.
-fn counts() -> Vec<[u64; 2]> {
+pub fn counts() -> Vec<[u64; 2]> {
     let [b32, b63, b64] = [32, 63, 64].map(|bits| 1u128 << bits);
     let firsts = about(&[0, FULL / 2, FULL, b32, b63, b64 - FULL, b64]);
     let sums = about(&[FULL, b32, b32 + FULL, b63, b64, b64 + FULL, 2 * b64 - 4]);
@@ -79,7 +79,8 @@ pub fn runs(part: &mut Part, seed: u64) {
 fn run(part: &mut Part, mut counts: [u64; 2], handed: impl Iterator<Item = Handed>) {
     for (bytes, room) in handed {
         let lent = Lent::new(part, counts, &bytes, room);
-        let [_, moved, refused, _] = FEED.compare(part, lent).counts;
+        let (_, lent) = FEED.compare(part, lent);
+        let [_, moved, refused, _] = lent.counts;
         counts = [moved, refused];
     }
 }
