@@ -21,6 +21,10 @@ int main(void) {
         if (status != 0)
             printf("refused %d\n", status); /* else the moved record is in output */
     }
+    if (ferror(stdin)) {
+        perror("standard input");
+        return 1;
+    }
     if (refusal == 0)
         refusal = uldaseong_save(counts, note, ULDASEONG_NOTE);
     if (refusal != 0) {
@@ -28,7 +32,7 @@ int main(void) {
         return 1;
     }
     /* the old note stands until the new one is whole */
-    file = ferror(stdin) ? NULL : fopen("session.note.new", "wb");
+    file = fopen("session.note.new", "wb");
     if (file == NULL || fwrite(note, 1, ULDASEONG_NOTE, file) != ULDASEONG_NOTE || fclose(file) != 0 ||
         rename("session.note.new", "session.note") != 0) {
         perror("session.note.new");
