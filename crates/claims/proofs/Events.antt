@@ -9,7 +9,7 @@ use Rattle.note.proofs.Stored.{note-length}
 use Rattle.session.specs.declared.Session.{Session}
 use Rattle.session.specs.Session.{feedOf, sessionAfter}
 use Rattle.session.specs.Handover.{saveOf}
-use Rattle.session.specs.History.{Call, Event, restored, answerAfter, accountOf, sessionOf, Reachable}
+use Rattle.session.specs.History.{Call, Event, restored, answerAfter, withAnswer, withNote, accountOf, sessionOf, Reachable}
 use Rattle.session.proofs.Histories.{answers-alike, agrees}
 use Rattle.session.proofs.Handovers.{within, is-saved, is-restored, reached, rewound}
 use Rattle.claims.specs.Histories.{HandsOver, Histories}
@@ -39,9 +39,14 @@ answered-alike call later between earlier note e =
     ∙ answered call (later ++ earlier)
 
 pub histories : Histories
-unfolding sessionAfter
+unfolding sessionAfter accountOf
 histories =
     record {
+      from-opened = refl;
+      from-note = λ note session earlier e. ap (withNote (accountOf earlier)) e;
+      after-refused = λ note n earlier e. ap (withNote (accountOf earlier)) e;
+      after-save = λ room earlier. refl;
+      after-feed = λ call earlier. ap (withAnswer (accountOf earlier)) (sym (answered call earlier));
       moved-is = λ events. agrees events .moved;
       refused-is = λ events. agrees events .refused;
       full-from = λ session. let n = session .moved + session .refused in (leb-true cap n, le-leb cap n);

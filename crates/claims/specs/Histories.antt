@@ -1,7 +1,7 @@
 -- What a session's counts say: after any list of events since it was opened, each count is the last accepted note's number plus
 -- the records since then which the rules convert, or refuse by a number other than 8 and 11; and what a note hands over.
 use mathlib.Core.Bool.{true}
-use mathlib.Core.List.{List, _∷_, _++_}
+use mathlib.Core.List.{List, [], _∷_, _++_}
 use mathlib.Core.Logic.{_↔_}
 use mathlib.Core.Path.{_≡_}
 use Prim.Native.Nat.{ℕ, _+_, _≤_}
@@ -10,7 +10,7 @@ use Rattle.parallel.specs.Refusal.{refused, given}
 use Rattle.session.specs.declared.Session.{Session}
 use Rattle.session.specs.Session.{isFull, feedOf, sessionAfter}
 use Rattle.session.specs.Handover.{saveOf, restoreOf}
-use Rattle.session.specs.History.{Call, Event, saved, restored, isMoved, isRefused, count, answerAfter, accountOf, sessionBy, sessionOf, Reachable}
+use Rattle.session.specs.History.{Call, Event, fed, saved, restored, isMoved, isRefused, count, answerAfter, accountOf, sessionBy, sessionOf, Reachable}
 
 -- a session is handed over: it is within the cap, it has a note, and the note gives it back whatever session takes it
 pub record HandsOver (session : Session) : Type 0 where
@@ -21,6 +21,19 @@ pub record HandsOver (session : Session) : Type 0 where
   pub is-restored : (other : Session) → sessionBy other (restored note) ≡ session
 
 pub record Histories : Type 0 where
+  -- what a history is counted from: 0 and 0 when opened, then each note that is accepted; and the answers since then
+  pub from-opened : accountOf [] ≡ record { note = record { moved = 0; refused = 0 }; since = [] }
+  pub from-note : (note : List ℕ) (session : Session) (earlier : List Event) → restoreOf note ≡ given session →
+      accountOf (restored note ∷ earlier) ≡ record { note = session; since = [] }
+  pub after-refused : (note : List ℕ) (n : ℕ) (earlier : List Event) → restoreOf note ≡ refused n →
+      accountOf (restored note ∷ earlier) ≡ accountOf earlier
+  pub after-save : (room : ℕ) (earlier : List Event) → accountOf (saved room ∷ earlier) ≡ accountOf earlier
+  pub after-feed : (call : Call) (earlier : List Event) →
+      accountOf (fed call ∷ earlier)
+      ≡ record {
+        note = accountOf earlier .note;
+        since = feedOf (sessionOf earlier) (call .input) (call .output) ∷ accountOf earlier .since;
+      }
   -- each count is the last accepted note's number plus what followed it
   pub moved-is : (events : List Event) →
       sessionOf events .moved ≡ accountOf events .note .moved + count isMoved (accountOf events .since)
