@@ -4,67 +4,22 @@
  * call: a refusal leaves what was lent as it was, a moved record is accepted again, a session's counts add up, and a text
  * and its position, a note and its counts come back as they were.
  */
-#include <stdio.h>
 #include <stdlib.h>
 #include <string.h>
-#include <sys/mman.h>
 #include <unistd.h>
 
+#include "guarded.h"
 #include "random.h"
 #include "uldaseong.h"
 
-#define LONGEST 40
-
-/* The statuses that a call may have, a bit for each: of positions as numbers and as floats, of two pieces that are not both of
- * 16 bytes, or one for a note that is not of 10, of a record, and of one that is fed to a session; of a position that is written
- * as text, of a piece for it that is not of 22 bytes, and of a text that is read; of counts that are saved, and of a note that is
- * restored. */
+/* The statuses that a call may have, a bit for each: of positions as numbers and as floats, of a record, and of one that is fed to a
+ * session. */
 enum {
     NUMBERS = 1 << 0 | 1 << 1 | 1 << 3 | 1 << 4 | 1 << 5,
     FLOATS = NUMBERS | 1 << 2,
-    PIECES = 1 << 8,
     RECORD = NUMBERS | 1 << 6 | 1 << 7 | 1 << 9 | 1 << 10,
     FED = RECORD | 1 << 11,
-    WRITTEN = 1 << 0 | 1 << 4 | 1 << 5,
-    TEXT_PIECE = 1 << 12,
-    READ = WRITTEN | 1 << 13 | 1 << 14 | 1 << 15,
-    SAVED = 1 << 0 | 1 << 16,
-    RESTORED = SAVED | 1 << 9,
 };
-
-static size_t page;
-
-/* A page between two that may not be touched. */
-static uint8_t *guarded(void) {
-    uint8_t *pages = mmap(NULL, 3 * page, PROT_NONE, MAP_PRIVATE | MAP_ANONYMOUS, -1, 0);
-    if (pages == MAP_FAILED || mprotect(pages + page, page, PROT_READ | PROT_WRITE) != 0) {
-        perror("guarded pages");
-        exit(2);
-    }
-    return pages + page;
-}
-
-/* Lets a page be read only, or written again. */
-static void protect(uint8_t *guard, int how) {
-    if (mprotect(guard, page, how) != 0) {
-        perror("a page to read only");
-        exit(2);
-    }
-}
-
-/* A piece of a guarded page that begins where it begins, or ends where it ends. */
-static void *lend(uint8_t *guard, size_t length) { return random_below(2) ? guard : guard + page - length; }
-
-static void hold(int fact, const char *what) {
-    if (!fact) {
-        printf("FAILED %s\n", what);
-        exit(1);
-    }
-}
-
-static void hold_status(uint8_t status, int allowed) {
-    hold(status <= 16 && (allowed >> status & 1) != 0, "a status that the call does not have");
-}
 
 /* Refusal 1 comes before all others of a call on numbers or floats. */
 static void hold_kind(uint8_t status, uint8_t kind) {
@@ -144,132 +99,6 @@ static void call_feed(uint64_t *counts, uint8_t *in, uint8_t *out) {
     hold(counts[1] == refused + (status != 0 && status != 8 && status != 11), "the count of refused records");
     hold(status == 0 || memcmp(output, before, sizeof before) == 0, "a fed record was refused and the output changed");
     hold((status == 11) == (length == ULDASEONG_RECORD && moved + refused >= 1000000000), "a full session");
-}
-
-/* Mostly the right one, and else short, or anything up to a page. */
-static size_t some_length(size_t right) {
-    if (random_below(8) != 0)
-        return right;
-    return random_below(16) ? random_below(LONGEST + 1) : random_below((uint32_t)page + 1);
-}
-
-/* Holds that of a page, as it was before a call, nothing changed but a piece. */
-static void hold_rest(const uint8_t *guard, const uint8_t *before, const void *piece, size_t length) {
-    size_t at = (size_t)((const uint8_t *)piece - guard), end = at + length;
-    hold(memcmp(guard, before, at) == 0 && memcmp(guard + end, before + end, page - end) == 0,
-         "a call changed what it was not to change");
-}
-
-/* Answers the status' bit. */
-static int call_read_text(uint8_t *in, uint8_t *out, uint8_t *in_before, uint8_t *out_before) {
-    size_t length = some_length(ULDASEONG_TEXT);
-    uint8_t *text = lend(in, length), again[ULDASEONG_TEXT];
-    int32_t *pair = lend(out, 8);
-    random_text(text, length);
-    memcpy(in_before, in, page);
-    memcpy(out_before, out, page);
-    uint8_t status = uldaseong_read_text(text, length, pair);
-    hold_status(status, length == ULDASEONG_TEXT ? READ : TEXT_PIECE);
-    hold_rest(in, in_before, text, 0);
-    hold_rest(out, out_before, pair, status == 0 ? 8 : 0);
-    if (status == 0) {
-        hold(uldaseong_write_text(pair[0], pair[1], again, sizeof again) == 0, "a position that was read is refused");
-        hold(memcmp(again, text, sizeof again) == 0, "a text comes back as another one");
-    }
-    return 1 << status;
-}
-
-/* Answers the status' bit. */
-static int call_write_text(uint8_t *out, uint8_t *before) {
-    size_t length = some_length(ULDASEONG_TEXT);
-    uint8_t *text = lend(out, length);
-    int32_t longitude = random_angle(64800000), latitude = random_angle(32400000), pair[2];
-    memcpy(before, out, page);
-    uint8_t status = uldaseong_write_text(longitude, latitude, text, length);
-    hold_status(status, length == ULDASEONG_TEXT ? WRITTEN : TEXT_PIECE);
-    hold_rest(out, before, text, status == 0 ? length : 0);
-    if (status == 0) {
-        hold(uldaseong_read_text(text, length, pair) == 0, "a text that was written is refused");
-        hold(pair[0] == longitude && pair[1] == latitude, "a position comes back as another one");
-    }
-    return 1 << status;
-}
-
-/* Every status is to be seen: some texts are accepted, and some refused by each number. */
-static void call_texts(long rounds, uint8_t *in, uint8_t *out) {
-    uint8_t *in_before = malloc(page), *out_before = malloc(page);
-    int read = 0, written = 0;
-    hold(in_before != NULL && out_before != NULL, "memory for two pages");
-    for (long i = 0; i < rounds; i++) {
-        read |= call_read_text(in, out, in_before, out_before);
-        written |= call_write_text(out, out_before);
-    }
-    hold(read == (READ | TEXT_PIECE), "a status that no text had that was read");
-    hold(written == (WRITTEN | TEXT_PIECE), "a status that no position had that was written");
-    free(in_before);
-    free(out_before);
-}
-
-/* Holds that counts, or those of a note, are refused exactly if they add to more than a note may have. */
-static void hold_sum(uint8_t status, uint64_t moved, uint64_t refused) {
-    int more = moved > 1000000000 || refused > 1000000000 || moved + refused > 1000000000;
-    hold((status == 16) == more, "a sum that is refused, or that is not");
-}
-
-/* The counts stand in a page that may only be read. Answers the status' bit. */
-static int call_save(uint8_t *in, uint8_t *out, uint8_t *before) {
-    size_t length = some_length(ULDASEONG_NOTE);
-    uint64_t *counts = lend(in, 16), again[2] = {random_number(), random_number()};
-    uint8_t *note = lend(out, length);
-    random_counts(counts);
-    memcpy(before, out, page);
-    protect(in, PROT_READ);
-    uint8_t status = uldaseong_save(counts, note, length);
-    protect(in, PROT_READ | PROT_WRITE);
-    hold_status(status, length == ULDASEONG_NOTE ? SAVED : PIECES);
-    hold_rest(out, before, note, status == 0 ? length : 0);
-    if (length == ULDASEONG_NOTE)
-        hold_sum(status, counts[0], counts[1]);
-    if (status == 0) {
-        hold(uldaseong_restore(again, note, length) == 0, "a note that was saved is refused");
-        hold(memcmp(again, counts, sizeof again) == 0, "counts come back as others");
-    }
-    return 1 << status;
-}
-
-/* The note stands in a page that may only be read. Answers the status' bit. */
-static int call_restore(uint8_t *in, uint8_t *out, uint8_t *before) {
-    size_t length = some_length(ULDASEONG_NOTE);
-    uint64_t *counts = lend(out, 16);
-    uint8_t *note = lend(in, length), again[ULDASEONG_NOTE];
-    random_note(note, length);
-    random_counts(counts);
-    memcpy(before, out, page);
-    protect(in, PROT_READ);
-    uint8_t status = uldaseong_restore(counts, note, length);
-    protect(in, PROT_READ | PROT_WRITE);
-    hold_status(status, length == ULDASEONG_NOTE ? RESTORED : PIECES);
-    hold_rest(out, before, counts, status == 0 ? 16 : 0);
-    if (status == 0) {
-        hold_sum(status, counts[0], counts[1]);
-        hold(uldaseong_save(counts, again, sizeof again) == 0, "counts that were restored are refused");
-        hold(memcmp(again, note, sizeof again) == 0, "a note comes back as another one");
-    }
-    return 1 << status;
-}
-
-/* Every status is to be seen, as of texts. */
-static void call_notes(long rounds, uint8_t *in, uint8_t *out) {
-    uint8_t *before = malloc(page);
-    int saved = 0, restored = 0;
-    hold(before != NULL, "memory for a page");
-    for (long i = 0; i < rounds; i++) {
-        saved |= call_save(in, out, before);
-        restored |= call_restore(in, out, before);
-    }
-    hold(saved == (SAVED | PIECES), "a status that no counts had that were saved");
-    hold(restored == (RESTORED | PIECES), "a status that no note had that was restored");
-    free(before);
 }
 
 int main(int count, char **words) {

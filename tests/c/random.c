@@ -89,11 +89,16 @@ void random_counts(uint64_t counts[2]) {
     uint64_t sum = random_below(2) ? random_below(1000000001) : 999999998 + random_below(5);
     counts[0] = random_number() % (sum + 1);
     counts[1] = sum - counts[0];
+    int one = (int)random_below(2);
+    if (random_below(8) == 0) {
+        counts[one] = 0;
+        counts[1 - one] = sum;
+    }
     if (random_below(8) == 0)
-        counts[random_below(2)] = random_number() >> random_below(64);
+        counts[one] = random_number() >> random_below(64);
     /* often a sum past 64 bits */
     if (random_below(8) == 0)
-        counts[0] -= counts[1] + random_below(2);
+        counts[one] -= counts[1 - one] + random_below(2);
 }
 
 void random_note(uint8_t *piece, size_t length) {

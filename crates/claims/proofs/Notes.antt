@@ -17,7 +17,8 @@ use Rattle.note.specs.Answer.{readAs}
 use Rattle.note.proofs.Orders.{written-8, written-16, written, read-8, read-9, read-16, read}
 use Rattle.session.specs.declared.Session.{Session}
 use Rattle.session.specs.Handover.{withCounts, saveOf, restoreOf}
-use Rattle.claims.specs.Notes.{byte, Marked, four, bytesOf, sessionOf, examples, Notes}
+use Rattle.claims.specs.Texts.{byte}
+use Rattle.claims.specs.Notes.{Marked, four, bytesOf, sessionWith, examples, Notes}
 
 -- ---- saving
 
@@ -60,7 +61,7 @@ module _ (note : List ℕ) (long : length note ≡ 10) where
         let past = ap (isPast narrow) counts-are ∙ lt-ltb cap (four note 2 + four note 6) h in
         ap (onGiven withCounts) (sym (read-16 narrow note length-good mark-good past))
 
-    restored-as : four note 2 + four note 6 ≤ cap → restoreOf note ≡ given (sessionOf (four note 2) (four note 6))
+    restored-as : four note 2 + four note 6 ≤ cap → restoreOf note ≡ given (sessionWith (four note 2) (four note 6))
     restored-as h =
         let within = ap (isPast narrow) counts-are ∙ le-ltb cap (four note 2 + four note 6) h in
         ap (onGiven withCounts) (sym (read narrow note length-good mark-good within) ∙ ap given counts-are)

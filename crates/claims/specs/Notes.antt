@@ -3,14 +3,12 @@ use mathlib.Core.List.{List, [], _∷_, map}
 use mathlib.Core.Logic.{_≢_}
 use mathlib.Core.Path.{_≡_}
 use Prim.Native.Nat.{ℕ, _+_, _*_, _/_, _%_, _≤_, _<_}
-use lib.ListN.{length, getD}
+use lib.ListN.{length}
 use Rattle.parallel.specs.Refusal.{Outcome, refused, given, orElse}
 use Rattle.session.specs.declared.Session.{Session}
 use Rattle.session.specs.Handover.{saveOf, restoreOf}
+use Rattle.claims.specs.Texts.{byte}
 use Rattle.claims.specs.TextExamples.{Example}
-
-abbrev pub byte : List ℕ → ℕ → ℕ
-byte note i = getD note i 0
 
 -- the mark 4D D3
 abbrev pub Marked : List ℕ → Type 0
@@ -37,8 +35,8 @@ bytesOf session =
     ∷ r / 16777216
     ∷ []
 
-abbrev pub sessionOf : ℕ → ℕ → Session
-sessionOf moved denied = record { moved = moved; refused = denied }
+abbrev pub sessionWith : ℕ → ℕ → Session
+sessionWith moved denied = record { moved = moved; refused = denied }
 
 abbrev pub restores : List ℕ → Outcome Session → Example Session
 restores note answer = record { defined = restoreOf note; expected = answer }
@@ -46,9 +44,9 @@ restores note answer = record { defined = restoreOf note; expected = answer }
 unfoldable pub examples : List (Example Session)
 examples =
     -- 0 and 0; 1,000,000,000 and 0; 999,999,999 and 1
-    restores (0x4D ∷ 0xD3 ∷ 0 ∷ 0 ∷ 0 ∷ 0 ∷ 0 ∷ 0 ∷ 0 ∷ 0 ∷ []) (given (sessionOf 0 0))
-    ∷ restores (0x4D ∷ 0xD3 ∷ 0x00 ∷ 0xCA ∷ 0x9A ∷ 0x3B ∷ 0 ∷ 0 ∷ 0 ∷ 0 ∷ []) (given (sessionOf 1000000000 0))
-    ∷ restores (0x4D ∷ 0xD3 ∷ 0xFF ∷ 0xC9 ∷ 0x9A ∷ 0x3B ∷ 1 ∷ 0 ∷ 0 ∷ 0 ∷ []) (given (sessionOf 999999999 1))
+    restores (0x4D ∷ 0xD3 ∷ 0 ∷ 0 ∷ 0 ∷ 0 ∷ 0 ∷ 0 ∷ 0 ∷ 0 ∷ []) (given (sessionWith 0 0))
+    ∷ restores (0x4D ∷ 0xD3 ∷ 0x00 ∷ 0xCA ∷ 0x9A ∷ 0x3B ∷ 0 ∷ 0 ∷ 0 ∷ 0 ∷ []) (given (sessionWith 1000000000 0))
+    ∷ restores (0x4D ∷ 0xD3 ∷ 0xFF ∷ 0xC9 ∷ 0x9A ∷ 0x3B ∷ 1 ∷ 0 ∷ 0 ∷ 0 ∷ []) (given (sessionWith 999999999 1))
     -- 16: one more; both numbers 2 ^ 32 - 1
     ∷ restores (0x4D ∷ 0xD3 ∷ 0x00 ∷ 0xCA ∷ 0x9A ∷ 0x3B ∷ 1 ∷ 0 ∷ 0 ∷ 0 ∷ []) (refused 16)
     ∷ restores (0x4D ∷ 0xD3 ∷ 255 ∷ 255 ∷ 255 ∷ 255 ∷ 255 ∷ 255 ∷ 255 ∷ 255 ∷ []) (refused 16)
@@ -72,7 +70,7 @@ pub record Notes : Type 0 where
   pub restored-16 : (note : List ℕ) → length note ≡ 10 → Marked note → 1000000000 < four note 2 + four note 6 →
       restoreOf note ≡ refused 16
   pub restored-as : (note : List ℕ) → length note ≡ 10 → Marked note → four note 2 + four note 6 ≤ 1000000000 →
-      restoreOf note ≡ given (sessionOf (four note 2) (four note 6))
+      restoreOf note ≡ given (sessionWith (four note 2) (four note 6))
   -- what was lent for a note holds it then, and a refusal leaves it
   pub written : (piece note : List ℕ) → orElse piece (given note) ≡ note
   pub kept : (piece : List ℕ) (n : ℕ) → orElse piece (refused n) ≡ piece

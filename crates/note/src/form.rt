@@ -21,12 +21,12 @@ pub struct Form {
 const MARK: u8 = 0x4D;
 
 // The bytes of the mark, and of a number.
-pub(crate) const MARKED: usize = 2;
+pub(crate) const MARK_SIZE: usize = 2;
 
-const NARROW: usize = 4;
+const NARROW_WIDTH: usize = 4;
 
 // The length of a note.
-pub const SIZE: usize = MARKED + NARROW + NARROW;
+pub const SIZE: usize = MARK_SIZE + NARROW_WIDTH + NARROW_WIDTH;
 
 // From this sum of its counts up a session is full, and no note has a greater one.
 pub const CAP: u64 = 1_000_000_000;
@@ -38,7 +38,7 @@ impl Form {
     {
         Form {
             mark: 0xD3,
-            width: NARROW,
+            width: NARROW_WIDTH,
             cap: CAP,
         }
     }
@@ -48,7 +48,7 @@ impl Form {
         requires { ⌜ Sound self ⌝ }
         ensures { λ r. ⌜ r ≡ sizeOf self ⌝ }
     {
-        MARKED + self.width + self.width
+        MARK_SIZE + self.width + self.width
     }
 
     // Whether two numbers add to more than the cap.
@@ -85,8 +85,8 @@ impl Form {
     {
         note[0] = MARK;
         note[1] = self.mark;
-        self.put_number(note, MARKED, moved);
-        self.put_number(note, MARKED + self.width, refused);
+        self.put_number(note, MARK_SIZE, moved);
+        self.put_number(note, MARK_SIZE + self.width, refused);
     }
 
     // Puts a number at a place of a note.

@@ -7,7 +7,7 @@ ghost use Rattle.note.specs.Answer.{writtenAs, writeOf, readAs, readOf, 
 use super::answer::NoteAnswer;
 use super::answer::NoteCounts;
 use super::form::Form;
-use super::form::MARKED;
+use super::form::MARK_SIZE;
 
 // Writes a note of two counts; or answers the first refusal of 8 and 16, and leaves `note` as it is.
 pub fn write_note(moved: u64, refused: u64, note: &mut [u8]) -> NoteAnswer
@@ -49,8 +49,8 @@ fn read_as(form: Form, note: &[u8]) -> NoteCounts
     if !form.has_mark(note) {
         return NoteCounts::Refused(9);
     }
-    let moved = form.number_at(note, MARKED);
-    let refused = form.number_at(note, MARKED + form.width);
+    let moved = form.number_at(note, MARK_SIZE);
+    let refused = form.number_at(note, MARK_SIZE + form.width);
     if form.is_past(moved, refused) {
         return NoteCounts::Refused(16);
     }

@@ -1,4 +1,4 @@
--- A session that went through a history has its counts, answers each call as the history says, and hands them over by a note.
+-- A session that went through a history has its counts, and answers each call as the history says.
 use mathlib.Core.Bool.{Bool, true, false, not, cond}
 use mathlib.Core.List.{List, [], _∷_}
 use mathlib.Core.Path.{_≡_, refl, sym, ap, _∙_}

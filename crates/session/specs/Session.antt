@@ -14,7 +14,7 @@ use Rattle.session.specs.declared.Session.{Session}
 abbrev pub opened : Session
 opened = record { moved = 0; refused = 0 }
 
--- from this sum of the counts up, the session is full
+-- from the cap up
 abbrev pub isFull : Session → Bool
 isFull session = leb cap (session .moved + session .refused)
 

@@ -63,7 +63,7 @@ impl Session {
         }
     }
 
-    // From this sum of the counts up.
+    // Full from the cap up.
     fn is_full(self) -> bool
         ensures { λ r. ⌜ r ≡ isFull self ⌝ }
     {
