@@ -12,7 +12,6 @@ use lib.Seq.{getD-append-add, take-at, drop-append-add}
 use mir.Syntax.{w32}
 use mir.Val.{SFits, toZ, ofZ}
 use mir.Facts.{fits-ofZ, toZ-ofZ}
-use Rattle.little_endian.specs.Whole.{leastBytes}
 use Rattle.little_endian.specs.Number.{bytesOf, hasFour, numberAt, withNumber}
 use Rattle.little_endian.proofs.Wholes.{whole-least}
 

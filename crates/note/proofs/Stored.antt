@@ -8,7 +8,7 @@ use borrow.Author.Tests.{le-ltb, ltb-false, eq-eqb}
 use lib.Dec.{lit<}
 use lib.ListN.{length, take, drop, length-append}
 use lib.Seq.{take-at, drop-at, take-all}
-use Rattle.parallel.specs.Refusal.{given, unless}
+use Rattle.parallel.specs.Refusal.{given}
 use Rattle.parallel.proofs.Orders.{passes, all-pass}
 use Rattle.little_endian.specs.Whole.{wholeOf, leastBytes}
 use Rattle.little_endian.proofs.Wholes.{least-length, whole-least}

@@ -16,7 +16,7 @@ use Rattle.note.proofs.Stored.{narrow-sound, is-written, is-read, read-within}
 use Rattle.session.specs.declared.Session.{Session}
 use Rattle.session.specs.Session.{isFull, feedOf, isCounted, oneRefused, sessionAfter}
 use Rattle.session.specs.Handover.{withCounts, saveOf, restoreOf}
-use Rattle.session.specs.History.{Call, Event, fed, saved, restored, sessionBy, sessionOf, Reachable}
+use Rattle.session.specs.History.{Event, fed, saved, restored, sessionBy, sessionOf, Reachable}
 use Rattle.session.proofs.Orders.{fed-8, fed-11}
 
 abbrev pub sumOf : Session → ℕ

@@ -15,7 +15,7 @@ use Rattle.note.specs.Note.{cap}
 use Rattle.session.specs.declared.Session.{Session}
 use Rattle.session.specs.Session.{feedOf, isCounted, oneRefused, sessionAfter}
 use Rattle.session.specs.Handover.{restoreOf}
-use Rattle.session.specs.History.{Call, Event, fed, saved, restored, Account, movedIn, refusedIn, isMoved, isRefused, count, answerAfter, withAnswer, withNote, accountOf, sessionOf}
+use Rattle.session.specs.History.{Call, Event, fed, saved, restored, Account, movedIn, refusedIn, count, answerAfter, withAnswer, withNote, accountOf, sessionOf}
 use Rattle.session.proofs.Orders.{fed-8, fed-11, fed as fed-on}
 
 -- the session's counts are those of the account

@@ -2,7 +2,7 @@
 use mathlib.Core.Bool.{Bool, true, false, cond}
 use mathlib.Core.List.{List, [], _∷_}
 use mathlib.Core.Path.{_≡_, refl, sym, _∙_}
-use Prim.Native.Nat.{ℕ, suc, _+_, _*_, _^_, _≤_}
+use Prim.Native.Nat.{ℕ, suc, _*_, _^_, _≤_}
 use native.Mathlib.Omega.{arith}
 use borrow.Author.Tests.{le-leb}
 use lib.Dec.{T, eqb, le→leb}
@@ -40,8 +40,8 @@ use Rattle.iso6709.specs.Answer.{latitudeIn, longitudeIn, positionIn, readOrder
 use Rattle.record.specs.Record.{recordOf, kindIn, formIn, centralIn, firstIn, secondIn, movedOf}
 use Rattle.record.specs.Records.{recordAt, tailOf}
 use Rattle.record.specs.Answer.{pairOrder, pairOf, convertOrder, convertOf, outputAfter}
-use Rattle.note.specs.Note.{cap, narrow, noteOf, countsIn}
-use Rattle.note.specs.Answer.{writeOrder as saveOrder, readOrder as restoreOrder, writtenAs, readAs}
+use Rattle.note.specs.Note.{narrow, noteOf, countsIn}
+use Rattle.note.specs.Answer.{writeOrder as saveOrder, readOrder as restoreOrder, writtenAs}
 use Rattle.session.specs.Session.{opened, feedOrder, feedOf, sessionAfter}
 use Rattle.session.specs.Handover.{withCounts}
 use Rattle.session.proofs.Orders.{fed}

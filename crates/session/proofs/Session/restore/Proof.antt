@@ -3,7 +3,7 @@ use mathlib.Core.List.{List}
 use mathlib.Core.Path.{_≡_, sym, ap, _∙_}
 use Prim.Native.Nat.{ℕ}
 use denote.Ref.{now}
-use Rattle.parallel.specs.Refusal.{Outcome, orElse, onGiven}
+use Rattle.parallel.specs.Refusal.{orElse, onGiven}
 use Rattle.note.specs.declared.answer.NoteCounts.{NoteCounts}
 use Rattle.note.specs.Answer.{readOf, answerOf, countsMeaning}
 use Rattle.session.specs.declared.Session.{Session}

@@ -4,7 +4,6 @@ use Prim.Native.Nat.{_+_}
 use native.Mathlib.Omega.{arith}
 use borrow.Author.Tests.{lt-ltb}
 use Rattle.whole.proofs.Tests.{same-test}
-use borrow.Author.Needs.{needs}
 use Rattle.note.proofs.form.Form.is_past.Statement.{statement}
 use Rattle.note.proofs.form.Form.is_past.Tie as tie
 

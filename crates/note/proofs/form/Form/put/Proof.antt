@@ -1,13 +1,11 @@
 -- `note::form::Form::put` meets its contract: the mark, and two numbers behind it.
-use mathlib.Core.List.{List, [], _∷_, _++_}
+use mathlib.Core.List.{List}
 use mathlib.Core.Path.{_≡_, sym, ap, _∙_}
-use Prim.Native.Nat.{ℕ, _+_, _≤_, _<_}
+use Prim.Native.Nat.{ℕ, _<_}
 use native.Mathlib.Omega.{arith}
 use denote.Ref.{now}
 use lib.ListN.{length, set, length-set}
-use Rattle.digits.specs.Put.{Put}
 use Rattle.digits.proofs.Puts.{put-byte, put-twice, put-long, put-all}
-use Rattle.little_endian.specs.Whole.{leastBytes}
 use Rattle.note.specs.Note.{sizeOf, noteOf}
 use Rattle.note.proofs.Stored.{note-length}
 use borrow.Author.Needs.{needs}
