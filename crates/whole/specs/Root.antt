@@ -1,6 +1,6 @@
 -- The floor of a square root.
 use mathlib.Core.Bool.{cond}
-use Prim.Native.Nat.{ℕ, zero, suc, _-_, _*_, _/_, _^_, _≤_, _<_}
+use Prim.Native.Nat.{ℕ, zero, suc, _*_, _/_, _≤_, _<_}
 use lib.Dec.{leb}
 
 -- the root of n is twice the root of n / 4, or one more; n / 4 is 0 after at most n turns
@@ -20,7 +20,3 @@ root n = rootIn n n
 pub record IsRoot (n r : ℕ) : Type 0 where
   pub low : r * r ≤ n
   pub high : n < suc r * suc r
-
--- the greatest root of a number of 64 bits
-abbrev pub mostRoot : ℕ
-mostRoot = 2 ^ 32 - 1
