@@ -1,13 +1,13 @@
--- The square root digit by digit: what was read of n so far is q * q and a rest of at most 2 q.
+-- The square root digit by digit.
 use mathlib.Core.Path.{_≡_, refl, _∙_}
 use Prim.Native.Nat.{ℕ, zero, suc, _+_, _-_, _*_, _/_, _^_, _≤_, _<_}
-use native.Mathlib.Nat.{pow-succ', one-mul, one-le-pow}
+use native.Mathlib.Nat.{pow-succ', one-le-pow}
 use native.Mathlib.Omega.{arith}
 use Rattle.whole.specs.Root.{root}
 use Rattle.whole.proofs.Squares.{root-is, root-unique}
 
--- What was read of n is n / unit. It is q * q and a rest of at most 2 q, which is rest / unit: what is still to be read stays in `rest`
--- too, below one unit. `found` is q in units, and has room for one more.
+-- What was read of n so far, n / unit, is q * q and a rest of at most 2 q. That is rest / unit: what is still to be read stays in `rest`
+-- too, below one unit. `found` is q in units, and one more would not pass 64 bits.
 pub record SoFar (unit n q rest found : ℕ) : Type 0 where
   pub square : n ≡ unit * (q * q) + rest
   pub small : rest < unit * (2 * q + 1)

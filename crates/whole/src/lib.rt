@@ -16,12 +16,12 @@ pub fn nearest(n: u64, d: u64) -> u64
     if d - r <= r { q + 1 } else { q }
 }
 
-// The floor of the square root of n, by binary digits, with shifts, sums and comparisons alone. What was read of n so far is q * q
-// and a rest of at most 2 q, where q has the digits found; two bits more are read at each turn. A short number has half the digits:
-// with turns that are not always 32 the machine code keeps the loop, and has some 70 bytes in the place of 1,300.
+// The floor of the square root of n, by binary digits: shifts, sums, differences and comparisons alone. What was read of n so far is
+// q * q and a rest of at most 2 q, where q has the digits found; each turn reads two bits more.
 pub fn root(n: u64) -> u64
     ensures { λ r. ⌜ r ≡ rootOf n ⌝ }
 {
+    // half the turns for a number of 32 bits; where there are always 32, the compiler writes them all out
     let mut bit: u64 = if n < 1 << 32 { 1 << 30 } else { 1 << 62 };
     let mut rest = n;
     let mut found: u64 = 0;

@@ -32,8 +32,8 @@ loop-again c =
     let r = c .before .before .before .loop .inv in
     let h = c .before .before .loop-test .taken in
     ⊎-elim
-    (λ w. rw (w .1, w .2) (read-1 r h (w .0 .taken)))
-    (λ w. rw (w .1, w .2) (read-0 r h (w .0 .left)))
+    (λ w. rw (w .1, w .2) (read-1 r h (omega (arith, w .0 .taken))))
+    (λ w. rw (w .1, w .2) (read-0 r h (omega (arith, w .0 .left))))
     (c .if2 .came)
 
 returns : tie.Need-returns Inv-loop μ-loop
