@@ -9,8 +9,8 @@
  *    3  central meridian outside 180 degrees either way
  *    4  longitude outside 180 degrees either way
  *    5  latitude outside 90 degrees either way
- *    6  size of y greater than the pole's y
- *    7  size of x greater than the half-width of the row found at y
+ *    6  y greater than the pole's y: north of it
+ *    7  x greater than the half-width of the row found at y: east of it
  *    8  input or output piece not of 16 bytes; of a note, not of 10
  *    9  mark is wrong
  *   10  form is neither 0 nor 1
@@ -20,14 +20,18 @@
  *   14  minutes or seconds of a text are 60 or more
  *   15  minus before zero in a text
  *   16  the two numbers of a note add to more than 1,000,000,000
+ *   17  x less than minus the half-width of the row found at y: west of it
+ *   18  y less than minus the pole's y: south of it
  *
- * The first that applies is given, in the order 8, 11, 9, 10, 1, 2, 3, then 4 and 5 for a position, or 6 and 7 for a place; to read
- * a text in the order 12, 13, 14, 15, 5, 4, and to write one in the order 12, 5, 4; to restore a note in the order 8, 9, 16, and to save
- * one in the order 8, 16. On a refusal nothing lent has changed, but that feeding counts it (8 and 11 are not counted).
+ * The first that applies is given, in the order 8, 11, 9, 10, 1, 2, 3, then 4 and 5 for a position, or 6, 18, 7 and 17 for a
+ * place; to read a text in the order 12, 13, 14, 15, 5, 4, and to write one in the order 12, 5, 4; to restore a note in the order
+ * 8, 9, 16, and to save one in the order 8, 16. On a refusal nothing lent has changed, but that feeding counts it (8 and 11 are
+ * not counted).
  *
  * What a caller owes: pointers are aligned and not null, not even for a length of 0; what is lent for writing overlaps nothing else
  * that is lent; and the floating-point unit rounds to nearest (FE_TONEAREST, as every program starts), since under another mode
- * the last bit of degrees may differ. Functions keep nothing between calls: they may be called from several threads on different memory.
+ * the last bit of degrees may differ. Functions keep nothing between calls: they may be called from several threads on different
+ * memory.
  */
 #ifndef ULDASEONG_H
 #define ULDASEONG_H
@@ -50,14 +54,14 @@ extern "C" {
 /* The place of a position: x, then y. Refusals: 1, 3, 4, 5. */
 uint8_t uldaseong_forward(uint8_t kind, int32_t central, int32_t longitude, int32_t latitude, int32_t place[2]);
 
-/* The position of a place: longitude, then latitude. Refusals: 1, 3, 6, 7. */
+/* The position of a place: longitude, then latitude. Refusals: 1, 3, 6, 18, 7, 17. */
 uint8_t uldaseong_inverse(uint8_t kind, int32_t central, int32_t x, int32_t y, int32_t position[2]);
 
 /* The same with angles in degrees. A float stands for the whole number nearest to its exact value, times 360,000 for degrees;
  * what is answered reads back as the same number. Refusals: 1, 2, 3, 4, 5. */
 uint8_t uldaseong_forward_degrees(uint8_t kind, double central, double longitude, double latitude, double place[2]);
 
-/* Refusals: 1, 2, 3, 6, 7. */
+/* Refusals: 1, 2, 3, 6, 18, 7, 17. */
 uint8_t uldaseong_inverse_degrees(uint8_t kind, double central, double x, double y, double position[2]);
 
 /* Converts the record in `input` into `output`. Refusals: 8, 9, 10, then those of its kind, form and numbers. */
@@ -68,7 +72,8 @@ uint8_t uldaseong_convert_record(const uint8_t *input, size_t input_length, uint
  * other than 8 and 11 adds one to the second. From a sum of 1,000,000,000 up the session is full: 11, after 8. */
 uint8_t uldaseong_feed(uint64_t counts[2], const uint8_t *input, size_t input_length, uint8_t *output, size_t output_length);
 
-/* A session's counts as a handover note: the mark 4D D3, then moved and refused as unsigned 32-bit numbers, the least byte first. */
+/* A session's counts as a handover note: the mark 4D D3, then moved and refused as unsigned 32-bit numbers, the least byte
+ * first. */
 
 /* Saves the counts in `note`. Every session that feeding and restoring reach from an opened one is saved. Refusals: 8, and 16 for
  * counts that no session reaches, so that every note that is saved can be restored. */

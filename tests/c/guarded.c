@@ -41,7 +41,7 @@ void hold(int fact, const char *what) {
 }
 
 void hold_status(uint8_t status, int allowed) {
-    hold(status <= 16 && (allowed >> status & 1) != 0, "a status that the call does not have");
+    hold(status <= 18 && (allowed >> status & 1) != 0, "a status that the call does not have");
 }
 
 void hold_rest(const uint8_t *guard, const uint8_t *before, const void *piece, size_t length) {

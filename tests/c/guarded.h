@@ -35,7 +35,8 @@ void hold_status(uint8_t status, int allowed);
 /* Holds that of a page, as it was before a call, nothing changed but a piece. */
 void hold_rest(const uint8_t *guard, const uint8_t *before, const void *piece, size_t length);
 
-/* Calls on texts (texts.c) and on notes (notes.c), so many of each function. Every status is to be seen. */
+/* Calls on places (places.c), on texts (texts.c) and on notes (notes.c), so many of each function. Every status is to be seen. */
+void call_places(long rounds, uint8_t *out);
 void call_texts(long rounds, uint8_t *in, uint8_t *out);
 void call_notes(long rounds, uint8_t *in, uint8_t *out);
 

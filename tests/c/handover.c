@@ -21,10 +21,10 @@ int main(void) {
         fclose(file);
     } else if (errno != ENOENT)
         return failed("session.note");
-    while (refusal == 0 && (length = fread(input, 1, sizeof input, stdin)) > 0) {
+    for (uint64_t record = 1; refusal == 0 && (length = fread(input, 1, sizeof input, stdin)) > 0; record++) {
         uint8_t status = uldaseong_feed(counts, input, length, output, sizeof output);
         if (status != 0)
-            printf("refused %d\n", status); /* else the moved record is in output */
+            printf("refused %d at %" PRIu64 "\n", status, record); /* else the moved record is in output */
     }
     if (ferror(stdin))
         return failed("standard input");

@@ -1,8 +1,8 @@
 /*
  * Calls every function of the C interface on seeded random input, with each lent piece of memory between two pages that
  * may be neither read nor written, so that a byte too far ends the run. It holds the answers to what must be so of every
- * call: a refusal leaves what was lent as it was, a moved record is accepted again, a session's counts add up, and a text
- * and its position, a note and its counts come back as they were.
+ * call: a refusal leaves what was lent as it was, a moved record is accepted again, a session's counts add up, a place is
+ * refused by the number of the side that it is past, and a text and its position, a note and its counts come back as they were.
  */
 #include <stdlib.h>
 #include <string.h>
@@ -17,7 +17,7 @@
 enum {
     NUMBERS = 1 << 0 | 1 << 1 | 1 << 3 | 1 << 4 | 1 << 5,
     FLOATS = NUMBERS | 1 << 2,
-    RECORD = NUMBERS | 1 << 6 | 1 << 7 | 1 << 9 | 1 << 10,
+    RECORD = NUMBERS | 1 << 6 | 1 << 7 | 1 << 9 | 1 << 10 | 1 << 17 | 1 << 18,
     FED = RECORD | 1 << 11,
 };
 
@@ -116,6 +116,7 @@ int main(int count, char **words) {
         call_feed(counts, in, out);
     }
     hold(rounds > 0 && counts[0] + counts[1] == 1000000000, "a session that is full in the end");
+    call_places(rounds, out);
     call_texts(rounds, in, out);
     /* fewer, since a page that is to be read only costs more than a call */
     call_notes((rounds + 3) / 4, in, out);

@@ -12,10 +12,10 @@ int main(void) {
     uint64_t counts[2] = {0, 0};
     uint8_t input[ULDASEONG_RECORD], output[ULDASEONG_RECORD];
     size_t length;
-    while ((length = fread(input, 1, sizeof input, stdin)) != 0) {
+    for (uint64_t record = 1; (length = fread(input, 1, sizeof input, stdin)) != 0; record++) {
         uint8_t refusal = uldaseong_feed(counts, input, length, output, sizeof output);
         if (refusal != 0)
-            printf("refused %d\n", refusal);
+            printf("refused %d at %" PRIu64 "\n", refusal, record);
         else
             printf("%" PRId32 " %" PRId32 "\n", number(output + 8), number(output + 12));
     }

@@ -4,6 +4,7 @@ use mathlib.Core.Bool.{Bool}
 use Prim.Native.Nat.{ℕ, _*_, _/_}
 use lib.Dec.{ltb}
 use lib.IntN.{ℤ, natAbs}
+use Rattle.whole.specs.Signed.{plus, minus}
 
 -- a degree, a minute and a second
 abbrev pub perDegree : ℕ
@@ -30,3 +31,10 @@ M = 32 * N
 -- farther from 0 than n, either way
 abbrev pub outside : ℕ → ℤ → Bool
 outside n z = ltb n (natAbs z)
+
+-- greater than n, and less than -n
+abbrev pub above : ℕ → ℤ → Bool
+above n z = ltb n (plus z)
+
+abbrev pub below : ℕ → ℤ → Bool
+below n z = ltb n (minus z)

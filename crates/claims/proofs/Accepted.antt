@@ -7,13 +7,16 @@ use lib.Dec.{T}
 use lib.IntN.{ℤ, natAbs}
 use Rattle.angle.specs.Angle.{N, H}
 use Rattle.angle.proofs.Judged.{not-false}
+use Rattle.angle.proofs.Sides.{not-above, not-below, between}
+use Rattle.parallel.specs.declared.table.Row.{Row}
 use Rattle.parallel.specs.Table.{rowOf}
 use Rattle.parallel.specs.Parallel.{height}
 use Rattle.parallel.specs.Latitude.{widthAt}
 use Rattle.parallel.specs.Refusal.{given, isKind}
 use Rattle.projection.specs.Forward.{placeOf}
 use Rattle.projection.specs.Inverse.{positionOf}
-use Rattle.projection.specs.Answer.{forwardOrder, inverseOrder, forwardOf, inverseOf}
+use Rattle.projection.specs.Answer.{forwardOrder, rowOrder, inverseOrder, forwardOf, inverseOf}
+use Rattle.claims.specs.Demand1.{None}
 use Rattle.claims.proofs.Refusals.{unless-none, unless-given}
 
 pub kind-false : (b : Bool) → T b → not b ≡ false
@@ -50,6 +53,16 @@ accepts kind c l f p =
       (le-ltb N (natAbs c) (p .c-le), (le-ltb N (natAbs l) (p .l-le), (le-ltb H (natAbs f) (p .f-le), tt))),
     )
 
+-- a place is past no edge of its row exactly when its sizes are within them
+pub row-sizes : (r : Row) (x y : ℤ) → None (rowOrder r x y) → (natAbs y ≤ height r H) × (natAbs x ≤ widthAt r y)
+row-sizes r x y n = (between (height r H) y (n .0) (n .1 .0), between (widthAt r y) x (n .1 .1 .0) (n .1 .1 .1 .0))
+
+pub row-none : (r : Row) (x y : ℤ) → natAbs y ≤ height r H → natAbs x ≤ widthAt r y → None (rowOrder r x y)
+row-none r x y h k =
+    let n = height r H in
+    let w = widthAt r y in
+    (not-above n y h, (not-below n y h, (not-above w x k, (not-below w x k, tt))))
+
 -- a place that inverse accepts
 pub record Place (kind : ℕ) (c x y : ℤ) : Type 0 where
   pub kind-good : T (isKind kind)
@@ -63,13 +76,9 @@ unfolding inverseOf
 place kind c x y p e =
     let r = rowOf kind in
     let g = unless-given (inverseOrder kind c x y) (positionOf r c x y) p e in
-    let n = g .0 in (
-      record {
-        kind-good = not-false (isKind kind) (n .0);
-        c-le = ltb-false N (natAbs c) (n .1 .0);
-        y-le = ltb-false (height r H) (natAbs y) (n .1 .1 .0);
-        x-le = ltb-false (widthAt r y) (natAbs x) (n .1 .1 .1 .0);
-      },
+    let n = g .0 in
+    let s = row-sizes r x y (n .1 .1) in (
+      record { kind-good = not-false (isKind kind) (n .0); c-le = ltb-false N (natAbs c) (n .1 .0); y-le = s .0; x-le = s .1 },
       g .1,
     )
 
@@ -79,5 +88,5 @@ admits kind c x y p =
     let r = rowOf kind in
     unless-none (inverseOrder kind c x y) (positionOf r c x y) (
       kind-false (isKind kind) (p .kind-good),
-      (le-ltb N (natAbs c) (p .c-le), (le-ltb (height r H) (natAbs y) (p .y-le), (le-ltb (widthAt r y) (natAbs x) (p .x-le), tt))),
+      (le-ltb N (natAbs c) (p .c-le), row-none r x y (p .y-le) (p .x-le)),
     )

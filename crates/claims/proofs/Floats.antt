@@ -4,15 +4,13 @@ use mathlib.Core.Logic.{inl, inr, _↔_}
 use mathlib.Core.Path.{_≡_, sym, ap, subst, _∙_}
 use Prim.Native.Nat.{ℕ, _*_, _≤_}
 use native.Mathlib.Omega.{arith}
-use borrow.Author.Tests.{not-false, ltb-false}
+use borrow.Author.Tests.{not-false}
 use lib.IntN.{ℤ, negℤ, natAbs}
 use lib.Ieee.{Float}
 use lib.Ieee.Scale.{finite}
-use Rattle.angle.specs.Angle.{perDegree, H}
+use Rattle.angle.specs.Angle.{perDegree}
 use Rattle.angle.proofs.Judged as Judged
 use Rattle.parallel.specs.Table.{rowOf}
-use Rattle.parallel.specs.Parallel.{height}
-use Rattle.parallel.specs.Latitude.{widthAt}
 use Rattle.parallel.specs.Refusal.{refused, given, isKind, onGiven}
 use Rattle.projection.specs.Forward.{placeOf}
 use Rattle.projection.specs.Inverse.{positionOf}
@@ -27,20 +25,20 @@ use Rattle.degrees.proofs.Written.{degrees-stand, units-stand}
 use Rattle.degrees.proofs.Numbers.{forward-numbers, inverse-numbers}
 use Rattle.claims.specs.Demand3.{TurnedFloat, floats}
 use Rattle.claims.proofs.Refusals.{unless-given, same-refusals}
-use Rattle.claims.proofs.Accepted.{kind-false, Position, position, accepts, Place, place, admits}
+use Rattle.claims.proofs.Accepted.{kind-false, Position, position, accepts, row-sizes, Place, place, admits}
 use Rattle.claims.proofs.Small.{place-small, position-small}
 use Rattle.claims.proofs.Calls.{Given, Accepts, Sent, SentBack, ByNumbers}
 
 -- a float turned
-turned-read : (k : ℕ) (x t : Float) → TurnedFloat x t → readOf k t ≡ negℤ (readOf k x)
+pub turned-read : (k : ℕ) (x t : Float) → TurnedFloat x t → readOf k t ≡ negℤ (readOf k x)
 turned-read k x t (inl e) = ap (readOf k) e ∙ read-neg k x
 turned-read k x t (inr e) = let z = read-zero k x (e .1) in rw (e .0, z)
 
-turned-finite : (x t : Float) → TurnedFloat x t → finite t ≡ finite x
+pub turned-finite : (x t : Float) → TurnedFloat x t → finite t ≡ finite x
 turned-finite x t (inl e) = ap finite e ∙ finite-neg x
 turned-finite x t (inr e) = ap finite (e .0)
 
-turned-outside : (n : ℕ) (x t : Float) → TurnedFloat x t → outside n t ≡ outside n x
+pub turned-outside : (n : ℕ) (x t : Float) → TurnedFloat x t → outside n t ≡ outside n x
 turned-outside n x t (inl e) = ap (outside n) e ∙ outside-neg n x
 turned-outside n x t (inr e) = ap (outside n) (e .0)
 
@@ -109,12 +107,13 @@ sent-back kind c x y l f e =
     let g = unless-given (inverseOrder kind c x y) (writtenPosition p) (l, f) e in
     let n = g .0 .1 in
     let t = n .1 .1 .1 in
+    let z = row-sizes r (units x) (units y) (t .1) in
     let q : Place kind (centiseconds c) (units x) (units y) =
     record {
       kind-good = Judged.not-false (isKind kind) (g .0 .0);
       c-le = read-within 180 perDegree c (t .0);
-      y-le = ltb-false (height r H) (natAbs (units y)) (t .1 .0);
-      x-le = ltb-false (widthAt r (units y)) (natAbs (units x)) (t .1 .1 .0);
+      y-le = z .0;
+      x-le = z .1;
     } in
     let a = admits kind (centiseconds c) (units x) (units y) q in
     let s = position-small kind (centiseconds c) (units x) (units y) (p .0) (p .1) a in

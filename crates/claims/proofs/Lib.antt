@@ -15,11 +15,15 @@ pub mod Small
 pub mod Floats
 pub mod Pieces
 pub mod Records
+pub mod Edges
+pub mod Sided
+pub mod TurnedPlaces
 pub mod Events
 pub mod Notes
 pub mod Statuses
 pub mod Texts
 pub mod Reprojections
 pub mod Following
+pub mod Printed
 pub mod ReprojectedRuns
 pub mod Exchanges

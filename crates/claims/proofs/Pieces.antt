@@ -2,7 +2,8 @@
 use mathlib.Core.Bool.{Bool, true, false, not, false≢true}
 use mathlib.Core.List.{List}
 use mathlib.Core.Path.{_≡_, refl, sym, ap, _∙_}
-use Prim.Native.Nat.{ℕ}
+use Prim.Native.Nat.{ℕ, _≤_}
+use native.Mathlib.Omega.{arith}
 use lib.IntN.{ℤ}
 use lib.ListN.{length}
 use Rattle.parallel.specs.Refusal.{Outcome, refused, given}
@@ -11,7 +12,6 @@ use Rattle.record.specs.Refusal.{bothOfSize}
 use Rattle.record.specs.Answer.{judgedOf}
 use Rattle.record.proofs.Orders.{converted-8, converted}
 use Rattle.session.proofs.Orders.{fed-8, fed-11, fed}
-use Rattle.claims.specs.Demand3.{Alike}
 use Rattle.claims.specs.RecordLaws.{RecordCall, converting, feeding}
 
 pub record Answers (h : RecordCall) : Type 0 where
@@ -37,13 +37,9 @@ feeding-answers =
       judged = λ t s output b f. sym (converted s output (ap not b) ∙ fed t s output f);
     }
 
--- two outcomes that are refused by one number are alike
-pub both-refused : {A : Type 0} (R : A → A → Type 0) {a b : Outcome A} (n : ℕ) → a ≡ refused n → b ≡ refused n → Alike R a b
-both-refused R n ea eb =
-    record {
-      refusals = λ m. (λ e. eb ∙ sym ea ∙ e, λ e. ea ∙ sym eb ∙ e);
-      answers = λ p q e g. absurd (not-both n p (sym ea ∙ e));
-    }
+-- a relation in which the refusals that records add, 8 to 11, stand with themselves
+abbrev pub Stays : (Outcome (ℤ × ℤ) → Outcome (ℤ × ℤ) → Type 0) → Type 0
+Stays P = (n : ℕ) → 8 ≤ n → n ≤ 11 → P (refused n) (refused n)
 
 module _ (h : RecordCall) (a : Answers h) where
   -- a call that converts had both pieces and room
@@ -60,12 +56,12 @@ module _ (h : RecordCall) (a : Answers h) where
       go true true eb ef = absurd (not-both 11 p (sym (a .filled t s output eb ef) ∙ e))
       go true false eb ef = record { pieces = eb; room = ef; record-is = sym (a .judged t s output eb ef) ∙ e }
 
-  -- records that are answered alike are answered alike by the call, with pieces as long and the same session
-  pub alike : (R : ℤ × ℤ → ℤ × ℤ → Type 0) (t : h .State) (s s' : List ℕ) (output : ℕ) → length s' ≡ length s →
-      Alike R (judgedOf s) (judgedOf s') → Alike R (h .answer t s output) (h .answer t s' output)
-  alike R t s s' output l k = go (bothOfSize (length s) output) (h .isFull t) refl refl
+  -- records whose own answers stand in such a relation have answers of the call in it, with pieces as long and the same session
+  pub alike : (P : Outcome (ℤ × ℤ) → Outcome (ℤ × ℤ) → Type 0) → Stays P → (t : h .State) (s s' : List ℕ) (output : ℕ) →
+      length s' ≡ length s → P (judgedOf s) (judgedOf s') → P (h .answer t s output) (h .answer t s' output)
+  alike P stays t s s' output l k = go (bothOfSize (length s) output) (h .isFull t) refl refl
     where
-      go : (b f : Bool) → bothOfSize (length s) output ≡ b → h .isFull t ≡ f → Alike R (h .answer t s output) (h .answer t s' output)
-      go false f eb ef = both-refused R 8 (a .short t s output eb) (a .short t s' output (rw l eb))
-      go true true eb ef = both-refused R 11 (a .filled t s output eb ef) (a .filled t s' output (rw l eb) ef)
+      go : (b f : Bool) → bothOfSize (length s) output ≡ b → h .isFull t ≡ f → P (h .answer t s output) (h .answer t s' output)
+      go false f eb ef = rw (a .short t s output eb, a .short t s' output (rw l eb)) (stays 8 (omega arith) (omega arith))
+      go true true eb ef = rw (a .filled t s output eb ef, a .filled t s' output (rw l eb) ef) (stays 11 (omega arith) (omega arith))
       go true false eb ef = rw (a .judged t s output eb ef, a .judged t s' output (rw l eb) ef) k

@@ -13,7 +13,7 @@ use mir.Syntax.{w32}
 use mir.Val.{SFits}
 use Rattle.whole.proofs.Signs.{fits}
 use Rattle.angle.specs.Angle.{N}
-use Rattle.parallel.specs.Refusal.{refused, given}
+use Rattle.parallel.specs.Refusal.{Outcome, refused, given}
 use Rattle.parallel.proofs.Orders.{not-both}
 use Rattle.projection.specs.Answer.{forwardOf, inverseOf}
 use Rattle.little_endian.specs.Number.{bytesOf}
@@ -26,7 +26,11 @@ use Rattle.claims.specs.Demand3.{Demand3, numbers, Alike, TurnedX, Turne
 use Rattle.claims.specs.RecordLaws.{RecordCall, SameHead, TurnedEast, TurnedNorth, withLongitude, OtherLongitude, FedAgain, SharedRecord, RecordLaws}
 use Rattle.claims.proofs.Accepted as Accepted
 use Rattle.claims.proofs.Small.{place-small, position-small}
-use Rattle.claims.proofs.Pieces.{Answers, both-refused, converted-as, alike}
+use Rattle.claims.proofs.Pieces.{Answers, Stays, converted-as, alike}
+
+-- one and the same refusal is alike
+both-refused : (R : ℤ × ℤ → ℤ × ℤ → Type 0) → Stays (Alike R)
+both-refused R n l h = record { refusals = λ m. (λ e. e, λ e. e); answers = λ p q e g. absurd (not-both n p e) }
 
 -- ---- pieces with the same head
 
@@ -43,21 +47,32 @@ module _ (s t : List ℕ) (h : SameHead s t) where
   form-same : formIn t ≡ formIn s
   form-same = head-byte 3 (omega arith)
 
-  -- positions that are answered alike are records that are judged alike
-  judged-alike : (R : ℤ × ℤ → ℤ × ℤ → Type 0) → formIn s ≢ place →
-      Alike R (forwardOf (kindIn s) (centralIn s) (firstIn s) (secondIn s)) (forwardOf (kindIn s) (centralIn t) (firstIn t) (secondIn t)) →
-      Alike R (judgedOf s) (judgedOf t)
-  judged-alike R n a = go (hasMark s) (eqb (formIn s) position) refl refl
+  -- positions, or places, whose answers stand in such a relation are records whose own answers do
+  pub judged-alike : (P : Outcome (ℤ × ℤ) → Outcome (ℤ × ℤ) → Type 0) → Stays P →
+      (formIn s ≡ position →
+      P (forwardOf (kindIn s) (centralIn s) (firstIn s) (secondIn s)) (forwardOf (kindIn s) (centralIn t) (firstIn t) (secondIn t))) →
+      (formIn s ≡ place →
+      P (inverseOf (kindIn s) (centralIn s) (firstIn s) (secondIn s)) (inverseOf (kindIn s) (centralIn t) (firstIn t) (secondIn t))) →
+      P (judgedOf s) (judgedOf t)
+  judged-alike P stays there back = go (hasMark s) (eqb (formIn s) position) (eqb (formIn s) place) refl refl refl
     where
-      go : (m p : Bool) → hasMark s ≡ m → eqb (formIn s) position ≡ p → Alike R (judgedOf s) (judgedOf t)
-      go false p em ep = both-refused R 9 (sym (judged-9 s (ap not em))) (sym (judged-9 t (ap not (mark-same ∙ em))))
-      go true false em ep =
-          let k = eqb-false (formIn s) position ep in
-          both-refused R 10 (sym (judged-10 s (ap not em) k n))
-          (sym (judged-10 t (ap not (mark-same ∙ em)) (λ e. k (sym form-same ∙ e)) (λ e. n (sym form-same ∙ e))))
-      go true true em ep =
+      go : (m p q : Bool) → hasMark s ≡ m → eqb (formIn s) position ≡ p → eqb (formIn s) place ≡ q → P (judgedOf s) (judgedOf t)
+      go false p q em ep eq =
+          rw (← judged-9 s (ap not em), ← judged-9 t (ap not (mark-same ∙ em))) (stays 9 (omega arith) (omega arith))
+      go true true q em ep eq =
           let k = eqb-true (formIn s) position ep in
-          rw (← judged-position s (ap not em) k, ← judged-position t (ap not (mark-same ∙ em)) (form-same ∙ k), kind-same) a
+          rw (← judged-position s (ap not em) k, ← judged-position t (ap not (mark-same ∙ em)) (form-same ∙ k), kind-same) (there k)
+      go true false true em ep eq =
+          let k = eqb-true (formIn s) place eq in
+          rw (← judged-place s (ap not em) k, ← judged-place t (ap not (mark-same ∙ em)) (form-same ∙ k), kind-same) (back k)
+      go true false false em ep eq =
+          let k = eqb-false (formIn s) position ep in
+          let n = eqb-false (formIn s) place eq in
+          rw (
+            ← judged-10 s (ap not em) k n,
+            ← judged-10 t (ap not (mark-same ∙ em)) (λ e. k (sym form-same ∙ e)) (λ e. n (sym form-same ∙ e)),
+          )
+          (stays 10 (omega arith) (omega arith))
 
 -- ---- a record that is converted
 
@@ -220,17 +235,19 @@ module _ (h : RecordCall) (a : Answers h) where
     turning-x : (t : h .State) (s s' : List ℕ) (output : ℕ) → formIn s ≢ place → TurnedEast s s' →
         Alike (TurnedX numbers) (h .answer t s output) (h .answer t s' output)
     turning-x t s s' output n k =
-        alike h a (TurnedX numbers) t s s' output (k .head .length-same)
-        (judged-alike s s' (k .head) (TurnedX numbers) n
-        (rw (k .latitude)
-        (d .turning-x (kindIn s) (centralIn s) (centralIn s') (firstIn s) (firstIn s') (secondIn s) (k .central) (k .longitude))))
+        alike h a (Alike (TurnedX numbers)) (both-refused (TurnedX numbers)) t s s' output (k .head .length-same)
+        (judged-alike s s' (k .head) (Alike (TurnedX numbers)) (both-refused (TurnedX numbers))
+        (λ _. rw (k .latitude)
+        (d .turning-x (kindIn s) (centralIn s) (centralIn s') (firstIn s) (firstIn s') (secondIn s) (k .central) (k .longitude)))
+        (λ e. absurd (n e)))
 
     turning-y : (t : h .State) (s s' : List ℕ) (output : ℕ) → formIn s ≢ place → TurnedNorth s s' →
         Alike (TurnedY numbers) (h .answer t s output) (h .answer t s' output)
     turning-y t s s' output n k =
-        alike h a (TurnedY numbers) t s s' output (k .head .length-same)
-        (judged-alike s s' (k .head) (TurnedY numbers) n
-        (rw (k .central, k .longitude) (d .turning-y (kindIn s) (centralIn s) (firstIn s) (secondIn s) (secondIn s') (k .latitude))))
+        alike h a (Alike (TurnedY numbers)) (both-refused (TurnedY numbers)) t s s' output (k .head .length-same)
+        (judged-alike s s' (k .head) (Alike (TurnedY numbers)) (both-refused (TurnedY numbers))
+        (λ _. rw (k .central, k .longitude) (d .turning-y (kindIn s) (centralIn s) (firstIn s) (secondIn s) (secondIn s') (k .latitude)))
+        (λ e. absurd (n e)))
 
     pub records-by-numbers : RecordLaws h
     records-by-numbers =

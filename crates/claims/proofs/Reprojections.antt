@@ -1,6 +1,6 @@
 -- What becomes of a record when it is reprojected, from demand 3's laws of the row that it had and of the one that it has.
 use mathlib.Core.Bool.{Bool, true, false, not, cond, _&&_, _||_, and-eq-true-iff}
-use mathlib.Core.List.{List}
+use mathlib.Core.List.{List, [], _∷_}
 use mathlib.Core.Logic.{_⊎_, inl, inr}
 use mathlib.Core.Path.{_≡_, refl, sym, ap, _∙_}
 use Prim.Native.Nat.{ℕ, _<_}
@@ -11,15 +11,17 @@ use lib.IntN.{ℤ, natAbs}
 use lib.ListN.{length, take}
 use lib.Seq.{take-take}
 use Rattle.whole.specs.Nearest.{nearest, carry}
-use Rattle.angle.specs.Angle.{N, H, outside}
+use Rattle.whole.specs.Signed.{splitOf}
+use Rattle.angle.specs.Angle.{N, H}
 use Rattle.parallel.specs.Table.{rows, rowOf}
 use Rattle.parallel.specs.Parallel.{height}
 use Rattle.parallel.specs.Latitude.{widthAt}
-use Rattle.parallel.specs.Refusal.{refused, given, isKind, unless}
+use Rattle.parallel.specs.Refusal.{Refusal, Outcome, refused, given, isKind, unless, pastNorth, pastSouth}
+use Rattle.parallel.proofs.Orders.{sides, refused-sides}
 use Rattle.projection.specs.Forward.{placeOf}
 use Rattle.projection.specs.Inverse.{positionOf}
+use Rattle.projection.specs.Refusal.{badCentral}
 use Rattle.projection.specs.Answer.{rowOrder, forwardOf, inverseOf}
-use Rattle.projection.proofs.Longitudes.{stay}
 use Rattle.record.specs.Record.{size, place, hasMark, holdsPlace, kindIn, formIn, centralIn, firstIn, secondIn}
 use Rattle.record.specs.Answer.{convertOf}
 use Rattle.record.proofs.Orders.{at-numbers, judged-place, converted, mark-bytes}
@@ -96,7 +98,10 @@ others s h = go (isTaken s) refl
     go false e = sym (stays s e)
 
 -- a place that the old row refuses
-refused-stays : (s : List ℕ) → (StoredPlace s → (n : ℕ) × (positionIn s ≡ refused n)) → reprojected s ≡ s
+abbrev Refuses : {A : Type 0} → Outcome A → Type 0
+Refuses o = (n : ℕ) × (o ≡ refused n)
+
+refused-stays : (s : List ℕ) → (StoredPlace s → Refuses (positionIn s)) → reprojected s ≡ s
 unfolding placeIn
 refused-stays s h = go (isTaken s) refl
   where
@@ -109,28 +114,43 @@ unfolding retiredRow retired height nearest carry
 pole-y kind (inl e) = rw e
 pole-y kind (inr e) = rw e
 
+-- an order refuses where a later part of it does, and where it begins with the sides of a limit that is passed
+later : {A : Type 0} (r : Refusal) (rs : List Refusal) (a : A) → Refuses (unless rs a) → Refuses (unless (r ∷ rs) a)
+unfolding unless
+later r rs a h = go (r .applies)
+  where
+    go : (b : Bool) → Refuses (cond b (refused (r .number)) (unless rs a))
+    go true = (r .number, refl)
+    go false = h
+
+past : {A : Type 0} (plus minus n : ℕ) (z : ℤ) (rest : List Refusal) (a : A) → n < natAbs z → Refuses (unless (sides plus minus n z rest) a)
+past plus minus n z rest a h =
+    (cond (splitOf z .negative) minus plus, refused-sides plus minus n z rest a (lt-ltb n (natAbs z) h))
+
 module _ (s : List ℕ) where
+  abbrev onSides : List Refusal
+  onSides = sides 7 17 (widthAt (oldRow s) (secondIn s)) (firstIn s) []
+
   pub by-3 : 64800000 < natAbs (centralIn s) → reprojected s ≡ s
   unfolding positionIn backUnder unless
   by-3 h = refused-stays s (λ p. (3, rw (lt-ltb N (natAbs (centralIn s)) h)))
 
   pub by-6 : 148825098 < natAbs (secondIn s) → reprojected s ≡ s
-  unfolding positionIn backUnder unless
-  by-6 h = refused-stays s (λ p. go p (outside N (centralIn s)))
-    where
-      go : (p : StoredPlace s) (b : Bool) → (n : ℕ) × (cond b (refused 3) (unless (rowOrder (oldRow s) (firstIn s) (secondIn s)) (position s)) ≡ refused n)
-      go p true = (3, refl)
-      go p false = (6, rw (pole-y (kindIn s) (p .kind-is), lt-ltb 148825098 (natAbs (secondIn s)) h))
+  unfolding positionIn backUnder
+  by-6 h =
+      refused-stays s (λ p.
+      later (badCentral (centralIn s)) (rowOrder (oldRow s) (firstIn s) (secondIn s)) (position s)
+      (past 6 18 (height (oldRow s) H) (secondIn s) onSides (position s) (rw (pole-y (kindIn s) (p .kind-is)) h)))
 
   pub by-7 : widthAt (oldRow s) (secondIn s) < natAbs (firstIn s) → reprojected s ≡ s
-  unfolding positionIn backUnder unless
-  by-7 h = refused-stays s (λ p. go (outside N (centralIn s)) (outside (height (oldRow s) H) (secondIn s)))
-    where
-      go : (b d : Bool) →
-          (n : ℕ) × (cond b (refused 3) (cond d (refused 6) (cond (outside (widthAt (oldRow s) (secondIn s)) (firstIn s)) (refused 7) (given (position s)))) ≡ refused n)
-      go true d = (3, refl)
-      go false true = (6, refl)
-      go false false = (7, rw (lt-ltb (widthAt (oldRow s) (secondIn s)) (natAbs (firstIn s)) h))
+  unfolding positionIn backUnder
+  by-7 h =
+      let r = oldRow s in
+      let y = secondIn s in
+      refused-stays s (λ p.
+      later (badCentral (centralIn s)) (pastNorth r y ∷ pastSouth r y ∷ onSides) (position s)
+      (later (pastNorth r y) (pastSouth r y ∷ onSides) (position s)
+      (later (pastSouth r y) onSides (position s) (past 7 17 (widthAt r y) (firstIn s) [] (position s) h))))
 
 -- ---- those that move
 
@@ -211,8 +231,5 @@ moves s p a =
     moved s p (position s .0) (position s .1)
     (unless-none (backOrder (oldRow s) (centralIn s) (firstIn s) (secondIn s)) (position s) (
       le-ltb N (natAbs (centralIn s)) (a .central-le),
-      (
-        rw (pole-y (kindIn s) (p .kind-is)) (le-ltb 148825098 (natAbs (secondIn s)) (a .y-le)),
-        (le-ltb (widthAt (oldRow s) (secondIn s)) (natAbs (firstIn s)) (a .x-le), tt),
-      ),
+      accepted.row-none (oldRow s) (firstIn s) (secondIn s) (rw (pole-y (kindIn s) (p .kind-is)) (a .y-le)) (a .x-le),
     ))

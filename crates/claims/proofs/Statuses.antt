@@ -31,11 +31,11 @@ unfolding forwardOf inverseOf forwardDegrees inverseDegrees convertOf feedOf rea
 interface =
     record {
       forward = λ kind c l f. ordered _ _ (tt, (tt, (tt, (tt, tt))));
-      inverse = λ kind c x y. ordered _ _ (tt, (tt, (tt, (tt, tt))));
+      inverse = λ kind c x y. ordered _ _ (tt, (tt, (tt, (tt, (tt, (tt, tt))))));
       forward-degrees = λ kind c l f. ordered _ _ (tt, (tt, (tt, (tt, (tt, (tt, (tt, tt)))))));
-      inverse-degrees = λ kind c x y. ordered _ _ (tt, (tt, (tt, (tt, (tt, (tt, (tt, tt)))))));
-      convert-record = λ input output. ordered _ _ (tt, (tt, (tt, pair-numbers Above0 input tt tt tt tt tt tt)));
-      feed = λ session input output. ordered _ _ (tt, (tt, (tt, (tt, pair-numbers Above0 input tt tt tt tt tt tt))));
+      inverse-degrees = λ kind c x y. ordered _ _ (tt, (tt, (tt, (tt, (tt, (tt, (tt, (tt, (tt, tt)))))))));
+      convert-record = λ input output. ordered _ _ (tt, (tt, (tt, pair-numbers Above0 input tt tt tt tt tt tt tt tt)));
+      feed = λ session input output. ordered _ _ (tt, (tt, (tt, (tt, pair-numbers Above0 input tt tt tt tt tt tt tt tt))));
       read-text = λ text. ordered _ _ (tt, (tt, (tt, (tt, (tt, (tt, tt))))));
       write-text = λ l f room. ordered _ _ (tt, (tt, (tt, tt)));
       save = λ session room. ordered _ _ (tt, (tt, tt));

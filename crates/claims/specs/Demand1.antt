@@ -52,9 +52,9 @@ pub record Ordered {A : Type 0} (outcome : Outcome A) (order : List Refusal) (nu
   pub refusal : (n : ℕ) → (outcome ≡ refused n) ↔ First order n
   pub answer : (b : A) → (outcome ≡ given b) ↔ (None order × (b ≡ a))
 
--- the last two numbers of a record's order: a position's, or a place's. A record of neither form is refused before them
+-- the last numbers of a record's order: a position's, or a place's. A record of neither form is refused before them
 abbrev pub byForm : ℕ → List ℕ
-byForm form = cond (eqb form 0) (4 ∷ 5 ∷ []) (6 ∷ 7 ∷ [])
+byForm form = cond (eqb form 0) (4 ∷ 5 ∷ []) (6 ∷ 18 ∷ 7 ∷ 17 ∷ [])
 
 pub record Demand1 : Type 0 where
   -- a kind is one of 1..12
@@ -67,7 +67,7 @@ pub record Demand1 : Type 0 where
       (1 ∷ 3 ∷ 4 ∷ 5 ∷ []) (placeOf (rowOf kind) central longitude latitude)
   pub inverse : (kind : ℕ) (central x y : ℤ) →
       Ordered (inverseOf kind central x y) (inverseOrder kind central x y)
-      (1 ∷ 3 ∷ 6 ∷ 7 ∷ []) (positionOf (rowOf kind) central x y)
+      (1 ∷ 3 ∷ 6 ∷ 18 ∷ 7 ∷ 17 ∷ []) (positionOf (rowOf kind) central x y)
   -- on floats, at the numbers read from them; 2 stands there for each of the three floats
   pub forward-degrees : (kind : ℕ) (central longitude latitude : Float) →
       Ordered (forwardDegrees kind central longitude latitude) (forwardDegreesOrder kind central longitude latitude)
@@ -75,7 +75,7 @@ pub record Demand1 : Type 0 where
       (writtenPlace (placeOf (rowOf kind) (centiseconds central) (centiseconds longitude) (centiseconds latitude)))
   pub inverse-degrees : (kind : ℕ) (central x y : Float) →
       Ordered (inverseDegrees kind central x y) (inverseDegreesOrder kind central x y)
-      (1 ∷ 2 ∷ 2 ∷ 2 ∷ 3 ∷ 6 ∷ 7 ∷ [])
+      (1 ∷ 2 ∷ 2 ∷ 2 ∷ 3 ∷ 6 ∷ 18 ∷ 7 ∷ 17 ∷ [])
       (writtenPosition (positionOf (rowOf kind) (centiseconds central) (units x) (units y)))
   -- on records: an input piece, the length of the output piece, and for feed the session
   pub convert-record : (input : List ℕ) (output : ℕ) →

@@ -2,6 +2,8 @@ pub mod Demands
 pub mod Demand1
 pub mod Demand2
 pub mod Demand3
+pub mod Edges
+pub mod TurnedPlaces
 pub mod Sharp
 pub mod RecordLaws
 pub mod Histories

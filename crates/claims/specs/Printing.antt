@@ -3,9 +3,10 @@
 use mathlib.Core.List.{List, [], _∷_, _++_}
 use mathlib.Core.Path.{_≡_}
 use Prim.Native.Nat.{ℕ}
+use lib.ListN.{take}
 use Rattle.lines.specs.Decimal.{DecimalText}
 use Rattle.report.specs.Block.{SessionsCompose, LinesCompose}
-use Rattle.report.specs.Program.{printedOf, ReadsDoNotMatter, TailRefused, SessionOfHistory}
+use Rattle.report.specs.Program.{printedOf, Numbered, ReadsDoNotMatter, TailRefused, SessionOfHistory}
 use Rattle.jobs.specs.declared.Job.{Job}
 use Rattle.stream.specs.Run.{RunsWrite, RunsEnd}
 use Rattle.claims.specs.RecordExample.{input}
@@ -21,12 +22,29 @@ movedOne = 109 ∷ 111 ∷ 118 ∷ 101 ∷ 100 ∷ 32 ∷ 49 ∷ 32 ∷ 114 ∷ 
 abbrev pub movedNone : List ℕ
 movedNone = 109 ∷ 111 ∷ 118 ∷ 101 ∷ 100 ∷ 32 ∷ 48 ∷ 32 ∷ 114 ∷ 101 ∷ 102 ∷ 117 ∷ 115 ∷ 101 ∷ 100 ∷ 32 ∷ 48 ∷ 10 ∷ []
 
+-- a place of kind 1, one unit west of the Equator's end: x is -314159266
+abbrev pub west : List ℕ
+west = 0x4D ∷ 0xD2 ∷ 0x01 ∷ 0x01 ∷ 0x00 ∷ 0x00 ∷ 0x00 ∷ 0x00 ∷ 0x5E ∷ 0x4F ∷ 0x46 ∷ 0xED ∷ 0x00 ∷ 0x00 ∷ 0x00 ∷ 0x00 ∷ []
+
+-- "refused 17 at 4" and "moved 3 refused 1"
+abbrev pub refusedFourth : List ℕ
+refusedFourth = 114 ∷ 101 ∷ 102 ∷ 117 ∷ 115 ∷ 101 ∷ 100 ∷ 32 ∷ 49 ∷ 55 ∷ 32 ∷ 97 ∷ 116 ∷ 32 ∷ 52 ∷ 10 ∷ []
+
+abbrev pub movedThree : List ℕ
+movedThree = 109 ∷ 111 ∷ 118 ∷ 101 ∷ 100 ∷ 32 ∷ 51 ∷ 32 ∷ 114 ∷ 101 ∷ 102 ∷ 117 ∷ 115 ∷ 101 ∷ 100 ∷ 32 ∷ 49 ∷ 10 ∷ []
+
+-- "refused 8 at 2"
+abbrev pub refusedTail : List ℕ
+refusedTail = 114 ∷ 101 ∷ 102 ∷ 117 ∷ 115 ∷ 101 ∷ 100 ∷ 32 ∷ 56 ∷ 32 ∷ 97 ∷ 116 ∷ 32 ∷ 50 ∷ 10 ∷ []
+
 pub record Printing : Type 0 where
   -- numbers as text: digits that read back as the number, with no zero in front
   pub decimal : DecimalText
   -- blocks one after the other are one stream
   pub sessions : SessionsCompose
   pub lines : LinesCompose
+  -- the line of each record stands behind those of the records before it, and has its number in the whole input
+  pub numbers : Numbered
   -- however the reads cut the input, the output is that of the whole input
   pub reads : ReadsDoNotMatter
   -- what a run of any job has written by its phase, whatever its reads and writes come to: only one that ended has written what the
@@ -34,10 +52,13 @@ pub record Printing : Type 0 where
   pub runs : RunsWrite
   -- and a run whose reads and writes go well ends with its input
   pub runs-end : (job : Job) → RunsEnd job
-  -- a tail shorter than 16 bytes prints "refused 8", and no count changes
+  -- a tail shorter than 16 bytes prints "refused 8" with the next number, and no count changes
   pub tail : TailRefused
   -- the counts of the last line are those of the history of all whole records
   pub counts : SessionOfHistory
   -- document 01's record, and empty input
   pub document : printedOf input ≡ pair ++ movedOne
   pub empty : printedOf [] ≡ movedNone
+  -- order 6's line, behind three records that are moved; and the first bytes of a record behind one
+  pub fourth : printedOf (input ++ (input ++ (input ++ west))) ≡ pair ++ (pair ++ (pair ++ (refusedFourth ++ movedThree)))
+  pub torn : printedOf (input ++ take 5 input) ≡ pair ++ (refusedTail ++ movedOne)

@@ -31,7 +31,7 @@ pub record StoredPlace (s : List ℕ) : Type 0 where
 abbrev pub oldRow : List ℕ → Row
 oldRow s = retiredRow (kindIn s)
 
--- the old row accepts it: what 3, 6 and 7 are given for is not so. The pole's y is the same for both kinds, then and now
+-- the old row accepts it: what 3, 6, 18, 7 and 17 are given for is not so. The pole's y is the same for both kinds, then and now
 pub record Accepted (s : List ℕ) : Type 0 where
   pub central-le : natAbs (centralIn s) ≤ 64800000
   pub y-le : natAbs (secondIn s) ≤ 148825098

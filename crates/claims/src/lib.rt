@@ -2,6 +2,7 @@
 ghost use Rattle.claims.specs.Arithmetic.{Arithmetic};
 ghost use Rattle.claims.specs.CosineKinds.{CosineKinds};
 ghost use Rattle.claims.specs.Demands.{Demands};
+ghost use Rattle.claims.specs.Edges.{Edges};
 ghost use Rattle.claims.specs.Examples.{Examples};
 ghost use Rattle.claims.specs.Exchange.{Exchange};
 ghost use Rattle.claims.specs.HouseSine.{HouseSine};
@@ -15,9 +16,10 @@ ghost use Rattle.claims.specs.ReprojectionExamples.{ReprojectionExamples
 ghost use Rattle.claims.specs.Sharp.{Sharp};
 ghost use Rattle.claims.specs.TextExamples.{TextExamples};
 ghost use Rattle.claims.specs.Texts.{Texts};
+ghost use Rattle.claims.specs.TurnedPlaces.{TurnedPlaces};
 ghost use Rattle.claims.specs.Written.{Written};
 
 // Does nothing. Its `ensures` is the product of all claims.
 pub fn hold()
-    ensures { λ _. ⌜ Demands × Sharp × Examples × RecordExample × Arithmetic × HouseSine × CosineKinds × Written × Printing × Interface × Texts × TextExamples × Notes × Exchange × Reprojection × ReprojectionExamples × ReprojectedRuns ⌝ }
+    ensures { λ _. ⌜ Demands × Edges × TurnedPlaces × Sharp × Examples × RecordExample × Arithmetic × HouseSine × CosineKinds × Written × Printing × Interface × Texts × TextExamples × Notes × Exchange × Reprojection × ReprojectionExamples × ReprojectedRuns ⌝ }
 {}

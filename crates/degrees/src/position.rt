@@ -10,7 +10,7 @@ use reading::centiseconds;
 use reading::outside;
 use reading::units;
 
-// The position in degrees at a place; or the first refusal of 1, 2, 3, 6 and 7.
+// The position in degrees at a place; or the first refusal of 1, 2, 3, 6, 18, 7 and 17.
 pub fn inverse_degrees(kind: u8, central: f64, x: f64, y: f64) -> DegreesAnswer
     ensures { λ r. ⌜ degreesMeaning r ≡ inverseOf kind central x y ⌝ }
 {

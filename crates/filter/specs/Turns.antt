@@ -1,7 +1,7 @@
 -- The turns of the loop, and how many there may be.
 use mathlib.Core.Path.{_≡_}
 use mathlib.Core.List.{List}
-use Prim.Native.Nat.{ℕ, _+_, _*_, _<_}
+use Prim.Native.Nat.{ℕ, _+_, _*_, _≤_, _<_}
 use lib.ListN.{length}
 use Rattle.record.specs.Record.{size}
 use Rattle.lines.specs.Line.{lineRoom}
@@ -31,10 +31,13 @@ pub record TurnsBy (job : Job) (state : State) (buffer : List ℕ) (r : Turned) 
   pub stands : standing (r .state) buffer′
       ≡ afterWrite (r .written) (afterRead job (standing state buffer) (readIn (gotOf (r .answer) (r .error)) behind))
   pub few : r .state .held < size
+  pub numbered : r .state .next ≤ state .next + records
 
--- the turns that a run has, and those that are left in a phase
+-- the turns that a run has: so many that the numbers of the records that they read have 64 bits
 abbrev pub limit : ℕ
-limit = 18446744073709551615
+limit = 4503599627370495
+
+-- those that are left in a phase
 
 abbrev pub leftIn : Phase → ℕ → ℕ
 leftIn Reading left = left

@@ -1,9 +1,10 @@
 // The loop: here bytes are only moved.
 ghost use mathlib.Core.Path.{_≡_};
-ghost use Prim.Native.Nat.{_<_};
+ghost use Prim.Native.Nat.{_+_, _≤_, _<_};
 ghost use Rattle.record.specs.Record.{size};
 ghost use Rattle.stream.specs.Step.{standing};
-ghost use Rattle.filter.specs.Turns.{Room, TurnsBy, Reached, leftIn};
+ghost use Rattle.report.specs.Block.{mostNumber};
+ghost use Rattle.filter.specs.Turns.{records, Room, TurnsBy, Reached, leftIn};
 use super::message::say;
 use jobs::Job;
 use lines::LINE_ROOM;
@@ -44,8 +45,11 @@ pub fn run(job: Job) {
     say(job, phase, &mut text);
 }
 
-// Takes turns until the run stops. A proved loop has to end, and nothing says that the input does: turns are counted down
-// from a number that no run uses up.
+// The turns of a run, which none uses up: at a million reads a second they last for 142 years. The numbers of all records that they
+// can read, and the one behind them, have 64 bits.
+const TURNS: u64 = (u64::MAX - 1) / (RECORDS as u64);
+
+// Takes turns until the run stops. A proved loop has to end, and nothing says that the input does: turns are counted down.
 fn turns(job: Job, arguments: usize, buffer: &mut [u8], text: &mut [u8]) -> State
     requires { ⌜ Room (now buffer) (now text) ⌝ }
     ensures { λ r. ⌜ Reached job arguments (standing r (now (buffer .exit))) 0 ⌝ }
@@ -53,10 +57,11 @@ fn turns(job: Job, arguments: usize, buffer: &mut [u8], text: &mut [u8]) -> Stat
     let phase = phase_at_start(arguments);
     let mut state = State {
         session: Session::open(),
+        next: 1,
         held: 0,
         phase,
     };
-    let mut left = left_in(phase, u64::MAX);
+    let mut left = left_in(phase, TURNS);
     while left > 0 {
         let turned = turn(job, state, buffer, text);
         state = turned.state;
@@ -68,7 +73,7 @@ fn turns(job: Job, arguments: usize, buffer: &mut [u8], text: &mut [u8]) -> Stat
 
 // Reads once, and writes what is to be written after that.
 fn turn(job: Job, state: State, buffer: &mut [u8], text: &mut [u8]) -> Turned
-    requires { ⌜ Room (now buffer) (now text) × (state .held < size) ⌝ }
+    requires { ⌜ Room (now buffer) (now text) × (state .held < size) × (state .next + records ≤ mostNumber) ⌝ }
     ensures { λ r. ⌜ TurnsBy job state (now (buffer .entry)) r (now (buffer .exit)) ⌝ }
 {
     let held = state.held;

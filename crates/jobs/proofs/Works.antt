@@ -20,18 +20,20 @@ use Rattle.report.specs.declared.block.Block.{Block}
 use Rattle.report.specs.Block.{Converted}
 use Rattle.report.specs.Program.{endOf, endRoom}
 use Rattle.jobs.specs.declared.Job.the-variants.{Convert, Reproject}
-use Rattle.jobs.specs.Job.{blockOf, sessionOf, endingOf, blockRoom, Works}
+use Rattle.jobs.specs.Job.{blockOf, sessionOf, endingOf, workFits, Works}
 
 -- ---- `convert`
 
-pub convert-works : (t : Session) (s text text′ : List ℕ) (r : Block) → Converted t s text r text′ → Works Convert t s text r text′
+pub convert-works : (t : Session) (next : ℕ) (s text text′ : List ℕ) (r : Block) → Converted t next s text r text′ →
+    Works Convert t next s text r text′
 unfolding sessionOf blockOf
-convert-works t s text text′ r c = record { session = c .session; placed = c .lines }
+convert-works t next s text text′ r c = record { session = c .session; placed = c .lines }
 
-pub convert-ends : (t : Session) (rest text text′ : List ℕ) (r : Text) → Placed (leb endRoom (length text)) (endOf t rest) text r text′ →
-    Placed (leb endRoom (length text)) (endingOf Convert t rest) text r text′
+pub convert-ends : (t : Session) (next : ℕ) (rest text text′ : List ℕ) (r : Text) →
+    Placed (leb endRoom (length text)) (endOf t next rest) text r text′ →
+    Placed (leb endRoom (length text)) (endingOf Convert t next rest) text r text′
 unfolding endingOf
-convert-ends t rest text text′ r p = p
+convert-ends t next rest text text′ r p = p
 
 -- ---- `reproject`
 
@@ -49,17 +51,18 @@ block-holds s text copied part e p =
     let made : part ≡ wholeReprojected s = p ∙ ap reprojectedAll front ∙ whole-alone s in
     front-put text (wholeReprojected s) (sym (whole-long s)) (rw (made, behind, whole-long s))
 
-pub reproject-works : (t : Session) (s text text′ : List ℕ) (r : Text) →
-    Placed (leb (blockRoom Reproject s) (length text)) (wholeReprojected s) text r text′ →
-    Works Reproject t s text (record { session = t; text = r }) text′
+pub reproject-works : (t : Session) (next : ℕ) (s text text′ : List ℕ) (r : Text) →
+    Placed (workFits Reproject next s text) (wholeReprojected s) text r text′ →
+    Works Reproject t next s text (record { session = t; text = r }) text′
 unfolding sessionOf blockOf
-reproject-works t s text text′ r p = record { session = same (leb (blockRoom Reproject s) (length text)); placed = p }
+reproject-works t next s text text′ r p = record { session = same (workFits Reproject next s text); placed = p }
   where
     same : (b : Bool) → t ≡ cond b t t
     same true = refl
     same false = refl
 
-pub reproject-ends : (t : Session) (rest text text′ : List ℕ) (r : Text) → Placed (leb (length rest) (length text)) rest text r text′ →
-    Placed (leb (length rest) (length text)) (endingOf Reproject t rest) text r text′
+pub reproject-ends : (t : Session) (next : ℕ) (rest text text′ : List ℕ) (r : Text) →
+    Placed (leb (length rest) (length text)) rest text r text′ →
+    Placed (leb (length rest) (length text)) (endingOf Reproject t next rest) text r text′
 unfolding endingOf
-reproject-ends t rest text text′ r p = p
+reproject-ends t next rest text text′ r p = p

@@ -5,7 +5,7 @@ use Prim.Native.Nat.{ℕ}
 use lib.Dec.{leb}
 use lib.IntN.{ℤ}
 use lib.ListN.{length}
-use Rattle.angle.specs.Angle.{H, outside}
+use Rattle.angle.specs.Angle.{H, outside, above, below}
 use Rattle.parallel.specs.declared.table.Row.{Row}
 use Rattle.parallel.specs.Table.{rows}
 use Rattle.parallel.specs.Parallel.{height}
@@ -56,6 +56,10 @@ badKind kind = record { number = 1; applies = not (isKind kind) }
 abbrev pub badLatitude : ℤ → Refusal
 badLatitude latitude = record { number = 5; applies = outside H latitude }
 
--- 6: size of y greater than the pole's y, nearest to KY H / N
-abbrev pub badY : Row → ℤ → Refusal
-badY r y = record { number = 6; applies = outside (height r H) y }
+-- 6: y greater than the north pole's, nearest to KY H / N
+abbrev pub pastNorth : Row → ℤ → Refusal
+pastNorth r y = record { number = 6; applies = above (height r H) y }
+
+-- 18: y less than the south pole's, which is that turned
+abbrev pub pastSouth : Row → ℤ → Refusal
+pastSouth r y = record { number = 18; applies = below (height r H) y }

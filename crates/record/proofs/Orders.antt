@@ -52,15 +52,15 @@ module _ (input : List ℕ) (output : ℕ) where
   converted b = rw b
 
 -- what holds of a position's and of a place's numbers holds of the numbers of the pair that a record holds
-pub pair-numbers : (P : ℕ → Type 0) (bytes : List ℕ) → P 1 → P 3 → P 4 → P 5 → P 6 → P 7 → OfNumbers P (pairOrder bytes)
+pub pair-numbers : (P : ℕ → Type 0) (bytes : List ℕ) → P 1 → P 3 → P 4 → P 5 → P 6 → P 18 → P 7 → P 17 → OfNumbers P (pairOrder bytes)
 unfolding pairOrder
-pair-numbers P bytes p1 p3 p4 p5 p6 p7 = go (eqb (formIn bytes) position)
+pair-numbers P bytes p1 p3 p4 p5 p6 p18 p7 p17 = go (eqb (formIn bytes) position)
   where
     go : (b : Bool) →
         OfNumbers P (cond b (forwardOrder (kindIn bytes) (centralIn bytes) (firstIn bytes) (secondIn bytes))
         (inverseOrder (kindIn bytes) (centralIn bytes) (firstIn bytes) (secondIn bytes)))
     go true = (p1, (p3, (p4, (p5, tt))))
-    go false = (p1, (p3, (p6, (p7, tt))))
+    go false = (p1, (p3, (p6, (p18, (p7, (p17, tt))))))
 
 -- two pieces that pass are of a record's length
 pub sizes : (input output : ℕ) → not (bothOfSize input output) ≡ false → (input ≡ size) × (output ≡ size)

@@ -1,8 +1,8 @@
 -- What the program prints: how reads add up, and what `last_lines` answers.
-use mathlib.Core.Path.{_≡_, refl, sym, ap}
+use mathlib.Core.Path.{_≡_, refl, sym, ap, _∙_}
 use mathlib.Core.List.{List, [], _∷_, _++_, append-assoc, append-nil}
-use Prim.Native.Nat.{ℕ, zero, suc, _+_, _<_}
-use native.Mathlib.Nat.{zero-add}
+use Prim.Native.Nat.{ℕ, zero, suc, _+_, _-_, _<_}
+use native.Mathlib.Nat.{add-zero, add-assoc, zero-add}
 use native.Mathlib.Omega.{arith}
 use borrow.Author.Tests.{ne-eqb}
 use lib.ListN.{length}
@@ -17,12 +17,12 @@ use Rattle.session.specs.Session.{opened, feedOf, sessionAfter}
 use Rattle.session.specs.History.{sessionOf}
 use Rattle.lines.specs.Line.{lineOf, closingOf}
 use Rattle.report.specs.Block.{answerAt, sessionAt, linesOf, blockSession, blockLines}
-use Rattle.report.specs.Program.{endOf, printedFrom, printedOf, printedBy, joined, ReadsDoNotMatter, TailRefused, callsOf, SessionOfHistory}
+use Rattle.report.specs.Program.{endOf, printedFrom, firstNumber, printedOf, Numbered, printedBy, joined, ReadsDoNotMatter, TailRefused, callsOf, SessionOfHistory}
 use Rattle.report.proofs.Blocks.{sessions-compose, lines-compose, same-session, same-lines}
 
 -- ---- bytes that come behind others
 
-module _ (t : Session) (s more : List ℕ) where
+module _ (t : Session) (next : ℕ) (s more : List ℕ) where
   abbrev k : ℕ
   k = recordsIn s
 
@@ -45,44 +45,78 @@ module _ (t : Session) (s more : List ℕ) where
       rw (records-more s more, sessions-compose t (s ++ more) 0 k n, session-first)
       (same-session (blockSession t s) (s ++ more) (tailOf s ++ more) (0 + k) 0 n last-same)
 
-  pub block-lines : blockLines t (s ++ more) ≡ blockLines t s ++ blockLines (blockSession t s) (tailOf s ++ more)
+  pub block-lines : blockLines t next (s ++ more) ≡ blockLines t next s ++ blockLines (blockSession t s) (next + k) (tailOf s ++ more)
   unfolding blockLines
   block-lines =
-      rw (records-more s more, lines-compose t (s ++ more) 0 k n, session-first, same-lines t (s ++ more) s 0 0 k first-same)
-      (ap (λ (l : List ℕ). linesOf t s 0 k ++ l) (same-lines (blockSession t s) (s ++ more) (tailOf s ++ more) (0 + k) 0 n last-same))
+      rw (
+        records-more s more,
+        lines-compose t next (s ++ more) 0 k n,
+        session-first,
+        same-lines t (s ++ more) s 0 0 next next refl k first-same,
+      )
+      (ap (λ (l : List ℕ). linesOf t next s 0 k ++ l)
+      (same-lines (blockSession t s) (s ++ more) (tailOf s ++ more) (0 + k) 0 next (next + k) (omega arith) n last-same))
 
   -- the lines of the first whole records, and then what is printed of the rest
-  printed-split : printedFrom t (s ++ more) ≡ blockLines t s ++ printedFrom (blockSession t s) (tailOf s ++ more)
+  printed-split : printedFrom t next (s ++ more) ≡ blockLines t next s ++ printedFrom (blockSession t s) (next + k) (tailOf s ++ more)
   unfolding printedFrom
   printed-split =
-      rw (block-lines, block-session, tail-more s more)
-      (append-assoc (blockLines t s) (blockLines (blockSession t s) (tailOf s ++ more)) _)
+      rw (block-lines, block-session, tail-more s more, records-more s more, ← add-assoc next k n)
+      (append-assoc (blockLines t next s) (blockLines (blockSession t s) (next + k) (tailOf s ++ more)) _)
 
 -- fewer bytes than a record are a tail
-printed-tail : (t : Session) (s : List ℕ) → length s < size → printedFrom t s ≡ endOf t s
+printed-tail : (t : Session) (next : ℕ) (s : List ℕ) → length s < size → printedFrom t next s ≡ endOf t next s
 unfolding printedFrom blockLines blockSession tailOf linesOf sessionAt
-printed-tail t s h = let e : recordsIn s ≡ 0 = omega arith in rw e
+printed-tail t next s h = let e : recordsIn s ≡ 0 = omega arith in rw (e, add-zero next)
 
-reads-from : (pieces : List (List ℕ)) (t : Session) (rest : List ℕ) → length rest < size →
-    printedBy t rest pieces ≡ printedFrom t (rest ++ joined pieces)
+reads-from : (pieces : List (List ℕ)) (t : Session) (next : ℕ) (rest : List ℕ) → length rest < size →
+    printedBy t next rest pieces ≡ printedFrom t next (rest ++ joined pieces)
 unfolding printedBy joined
-reads-from [] t rest h = rw (append-nil rest) (sym (printed-tail t rest h))
-reads-from (piece ∷ pieces) t rest h =
+reads-from [] t next rest h = rw (append-nil rest) (sym (printed-tail t next rest h))
+reads-from (piece ∷ pieces) t next rest h =
     let s : List ℕ = rest ++ piece in
     let l = tail-length s in
-    rw (sym (append-assoc rest piece (joined pieces)), printed-split t s (joined pieces))
-    (ap (λ (x : List ℕ). blockLines t s ++ x) (reads-from pieces (blockSession t s) (tailOf s) (omega arith)))
+    rw (sym (append-assoc rest piece (joined pieces)), printed-split t next s (joined pieces))
+    (ap (λ (x : List ℕ). blockLines t next s ++ x) (reads-from pieces (blockSession t s) (next + recordsIn s) (tailOf s) (omega arith)))
 
 pub reads-do-not-matter : ReadsDoNotMatter
 unfolding printedOf
-reads-do-not-matter pieces = reads-from pieces opened [] (omega arith)
+reads-do-not-matter pieces = reads-from pieces opened firstNumber [] (omega arith)
+
+-- ---- the line of a record
+
+-- the first of some records
+first-line : (t : Session) (next : ℕ) (s : List ℕ) (i : ℕ) → linesOf t next s (0 + i) 1 ≡ lineOf (next + i) (answerAt t s i)
+unfolding linesOf sessionAt
+first-line t next s i = rw (add-zero (0 + i), zero-add i)
+
+pub numbered : Numbered
+unfolding printedOf printedFrom blockLines
+numbered s i h =
+    let u : Session = sessionAt opened s 0 i in
+    let later : ℕ = recordsIn s - (i + 1) in
+    let n : recordsIn s ≡ i + (1 + later) = omega arith in
+    let end : List ℕ = endOf (blockSession opened s) (firstNumber + recordsIn s) (tailOf s) in
+    let line : List ℕ = lineOf (firstNumber + i) (answerAt u s i) in
+    let lines : List ℕ = linesOf (sessionAt u s (0 + i) 1) firstNumber s (0 + i + 1) later in
+    let cut : linesOf opened firstNumber s 0 (recordsIn s) ≡ linesOf opened firstNumber s 0 i ++ (line ++ lines) =
+    ap (linesOf opened firstNumber s 0) n
+    ∙ lines-compose opened firstNumber s 0 i (1 + later)
+    ∙ ap (λ (l : List ℕ). linesOf opened firstNumber s 0 i ++ l)
+    (lines-compose u firstNumber s (0 + i) 1 later ∙ ap (λ (l : List ℕ). l ++ lines) (first-line u firstNumber s i)) in
+    record {
+      behind = lines ++ end;
+      stands = ap (λ (l : List ℕ). l ++ end) cut
+          ∙ append-assoc (linesOf opened firstNumber s 0 i) (line ++ lines) end
+          ∙ ap (λ (l : List ℕ). linesOf opened firstNumber s 0 i ++ l) (append-assoc line lines end);
+    }
 
 -- ---- the tail, and the history
 
 pub tail-refused : TailRefused
 unfolding endOf feedOf unless sessionAfter
-tail-refused t [] h k = absurd (omega arith)
-tail-refused t (b ∷ bs) h k =
+tail-refused t next [] h k = absurd (omega arith)
+tail-refused t next (b ∷ bs) h k =
     let e : length (b ∷ bs) ≡ size → ⊥ = λ e. omega arith in
     simp (ne-eqb _ _ e)
 
@@ -97,14 +131,14 @@ session-of-history s = history-from s (recordsIn s)
 
 -- ---- `last_lines`
 
-pub end-none : (t : Session) (tail : List ℕ) → length tail ≡ 0 → endOf t tail ≡ closingOf t
+pub end-none : (t : Session) (next : ℕ) (tail : List ℕ) → length tail ≡ 0 → endOf t next tail ≡ closingOf t
 unfolding endOf
-end-none t [] h = refl
-end-none t (b ∷ tail) h = absurd (omega arith)
+end-none t next [] h = refl
+end-none t next (b ∷ tail) h = absurd (omega arith)
 
-pub end-some : (t : Session) (tail : List ℕ) (fed : Fed) (room : ℕ) → (length tail ≡ 0 → ⊥) → room ≡ size →
+pub end-some : (t : Session) (next : ℕ) (tail : List ℕ) (fed : Fed) (room : ℕ) → (length tail ≡ 0 → ⊥) → room ≡ size →
     meaning (fed .answer) ≡ feedOf t tail room → fed .session ≡ sessionAfter t (feedOf t tail room) →
-    endOf t tail ≡ lineOf (meaning (fed .answer)) ++ closingOf (fed .session)
+    endOf t next tail ≡ lineOf next (meaning (fed .answer)) ++ closingOf (fed .session)
 unfolding endOf
-end-some t [] fed room h e a s = absurd (h refl)
-end-some t (b ∷ tail) fed room h e a s = rw (a, s, e)
+end-some t next [] fed room h e a s = absurd (h refl)
+end-some t next (b ∷ tail) fed room h e a s = rw (a, s, e)

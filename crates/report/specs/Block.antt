@@ -1,6 +1,6 @@
 -- The records of a run of bytes, fed to a session one after the other.
 use mathlib.Core.Path.{_≡_}
-use mathlib.Core.Bool.{Bool, cond}
+use mathlib.Core.Bool.{Bool, cond, _&&_}
 use mathlib.Core.List.{List, [], _++_}
 use Prim.Native.Nat.{ℕ, zero, suc, _+_, _*_}
 use lib.Dec.{leb}
@@ -25,10 +25,11 @@ sessionAt t s first zero = t
 sessionAt t s first (suc count) =
     let u = sessionAt t s first count in sessionAfter u (answerAt u s (first + count))
 
--- the lines of those records
-unfoldable pub linesOf : Session → List ℕ → ℕ → ℕ → List ℕ
-linesOf t s first zero = []
-linesOf t s first (suc count) = linesOf t s first count ++ lineOf (answerAt (sessionAt t s first count) s (first + count))
+-- the lines of those records, where the first record of s has the number `next` in its stream
+unfoldable pub linesOf : Session → ℕ → List ℕ → ℕ → ℕ → List ℕ
+linesOf t next s first zero = []
+linesOf t next s first (suc count) =
+    let i = first + count in linesOf t next s first count ++ lineOf (next + i) (answerAt (sessionAt t s first count) s i)
 
 -- blocks compose: a + b records are a records, and then b records in the session after those
 abbrev pub SessionsCompose : Type 0
@@ -37,20 +38,29 @@ SessionsCompose =
 
 abbrev pub LinesCompose : Type 0
 LinesCompose =
-    (t : Session) (s : List ℕ) (first a b : ℕ) → linesOf t s first (a + b) ≡ linesOf t s first a ++ linesOf (sessionAt t s first a) s (first + a) b
+    (t : Session) (next : ℕ) (s : List ℕ) (first a b : ℕ) →
+    linesOf t next s first (a + b) ≡ linesOf t next s first a ++ linesOf (sessionAt t s first a) next s (first + a) b
 
 -- the session and the lines of all whole records
 unfoldable pub blockSession : Session → List ℕ → Session
 blockSession t s = sessionAt t s 0 (recordsIn s)
 
-unfoldable pub blockLines : Session → List ℕ → List ℕ
-blockLines t s = linesOf t s 0 (recordsIn s)
+unfoldable pub blockLines : Session → ℕ → List ℕ → List ℕ
+blockLines t next s = linesOf t next s 0 (recordsIn s)
 
--- a text has the room of a line for each whole record
-abbrev pub blockFits : List ℕ → List ℕ → Bool
-blockFits s text = leb (lineRoom * recordsIn s) (length text)
+-- the greatest number of 64 bits
+abbrev pub mostNumber : ℕ
+mostNumber = 18446744073709551615
 
--- what `convert_block` answers in a session t, and what the text becomes: where it is too short, no record is fed
-pub record Converted (t : Session) (s text : List ℕ) (r : Block) (text′ : List ℕ) : Type 0 where
-  pub session : r .session ≡ cond (blockFits s text) (blockSession t s) t
-  pub lines : Placed (blockFits s text) (blockLines t s) text (r .text) text′
+-- a text of this length has the room of a line for each of `count` records from number `next` on, and their numbers and the one
+-- behind them have 64 bits
+abbrev pub linesFit : ℕ → ℕ → ℕ → Bool
+linesFit next count room = leb (lineRoom * count) room && leb (next + count) mostNumber
+
+abbrev pub blockFits : ℕ → List ℕ → List ℕ → Bool
+blockFits next s text = linesFit next (recordsIn s) (length text)
+
+-- what `convert_block` answers in a session t, and what the text becomes: where the lines do not fit, no record is fed
+pub record Converted (t : Session) (next : ℕ) (s text : List ℕ) (r : Block) (text′ : List ℕ) : Type 0 where
+  pub session : r .session ≡ cond (blockFits next s text) (blockSession t s) t
+  pub lines : Placed (blockFits next s text) (blockLines t next s) text (r .text) text′

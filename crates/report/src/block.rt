@@ -1,10 +1,11 @@
 // The whole records of a run of bytes, fed one after the other.
+ghost use mathlib.Core.Path.{_≡_};
 ghost use Prim.Native.Nat.{_+_, _≤_};
 ghost use lib.ListN.{length};
 ghost use Rattle.projection.specs.Answer.{meaning};
 ghost use Rattle.digits.specs.Put.{Put};
 ghost use Rattle.lines.specs.Line.{lineOf, lineRoom};
-ghost use Rattle.report.specs.Block.{Converted};
+ghost use Rattle.report.specs.Block.{linesFit, Converted};
 use lines::LINE_ROOM;
 use lines::Text;
 use lines::answer_line;
@@ -18,13 +19,21 @@ pub struct Block {
     pub text: Text,
 }
 
-// Feeds the whole records of the input to the session, and puts their lines at the front of the text. Where the text is
-// too short for that many lines, no record is fed.
-pub fn convert_block(session: Session, input: &[u8], text: &mut [u8]) -> Block
-    ensures { λ r. ⌜ Converted session (now (input .entry)) (now (text .entry)) r (now (text .exit)) ⌝ }
+// Whether a text of this length has the room of a line for each of so many records from number `next` on, and their numbers and the
+// one behind them have 64 bits.
+pub fn lines_fit(next: u64, count: usize, room: usize) -> bool
+    ensures { λ r. ⌜ r ≡ linesFit next count room ⌝ }
+{
+    room / LINE_ROOM >= count && u64::MAX - next >= count as u64
+}
+
+// Feeds the whole records of the input to the session, and puts their lines at the front of the text; the first of them has the
+// number `next`. Where the lines do not fit, no record is fed.
+pub fn convert_block(session: Session, next: u64, input: &[u8], text: &mut [u8]) -> Block
+    ensures { λ r. ⌜ Converted session next (now (input .entry)) (now (text .entry)) r (now (text .exit)) ⌝ }
 {
     let count = input.len() / SIZE;
-    if text.len() / LINE_ROOM < count {
+    if !lines_fit(next, count, text.len()) {
         return Block {
             session,
             text: Text::TooShort,
@@ -39,7 +48,7 @@ pub fn convert_block(session: Session, input: &[u8], text: &mut [u8]) -> Block
         let fed = state.feed(&input[from..from + SIZE], &mut output);
         state = fed.session;
         let answer = fed.answer;
-        end = line_at(text, end, answer);
+        end = line_at(text, end, next + i as u64, answer);
         i += 1;
     }
     Block {
@@ -50,12 +59,12 @@ pub fn convert_block(session: Session, input: &[u8], text: &mut [u8]) -> Block
 
 // Puts the line of an answer at a place with the room for it, and answers the place behind it. No more than that room is
 // lent, so that the line ends within it.
-pub(crate) fn line_at(text: &mut [u8], at: usize, answer: Answer) -> usize
+pub(crate) fn line_at(text: &mut [u8], at: usize, number: u64, answer: Answer) -> usize
     requires { ⌜ at + lineRoom ≤ length (now text) ⌝ }
-    ensures { λ r. ⌜ Put (now (text .entry)) at (lineOf (meaning answer)) r (now (text .exit)) ⌝ }
+    ensures { λ r. ⌜ Put (now (text .entry)) at (lineOf number (meaning answer)) r (now (text .exit)) ⌝ }
     ensures { λ r. ⌜ r ≤ at + lineRoom ⌝ }
 {
-    let line = answer_line(answer, &mut text[at..at + LINE_ROOM]);
+    let line = answer_line(number, answer, &mut text[at..at + LINE_ROOM]);
     match line {
         Text::Bytes(count) => at + count,
         Text::TooShort => at,

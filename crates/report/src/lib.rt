@@ -4,4 +4,5 @@ mod ending;
 
 pub use block::Block;
 pub use block::convert_block;
+pub use block::lines_fit;
 pub use ending::last_lines;

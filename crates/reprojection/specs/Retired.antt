@@ -28,7 +28,7 @@ isRetired kind = eqb kind 3 || eqb kind 4
 unfoldable pub retiredRow : ℕ → Row
 retiredRow kind = getD retired (kind - 3) noRow
 
--- a place sent back under a row: refused by 3, 6 or 7, or its position
+-- a place sent back under a row: refused by 3, 6, 18, 7 or 17, or its position
 abbrev pub backOrder : Row → ℤ → ℤ → ℤ → List Refusal
 backOrder r central x y = badCentral central ∷ rowOrder r x y
 

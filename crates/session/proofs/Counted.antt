@@ -17,7 +17,7 @@ Counted n = T (isCounted n)
 pub judged-counts : (bytes : List ℕ) → Counts (judgedOf bytes)
 unfolding judgedOf
 judged-counts bytes =
-    unless-number Counted (recordOrder bytes) (pairOf bytes) (tt, (tt, pair-numbers Counted bytes tt tt tt tt tt tt))
+    unless-number Counted (recordOrder bytes) (pairOf bytes) (tt, (tt, pair-numbers Counted bytes tt tt tt tt tt tt tt tt))
 
 -- a counted refusal adds one
 pub one-refused : (session : Session) (n : ℕ) → T (isCounted n) → oneRefused session ≡ sessionAfter session (refused n)

@@ -2,12 +2,14 @@
 use mathlib.Core.Path.{_≡_, refl, sym, ap, _∙_}
 use mathlib.Core.Bool.{Bool, true, false, cond}
 use mathlib.Core.List.{List, [], _∷_, _++_, append-nil}
-use Prim.Native.Nat.{ℕ, _≤_, _<_}
+use Prim.Native.Nat.{ℕ, _+_, _≤_, _<_}
+use native.Mathlib.Nat.{add-assoc}
 use borrow.Author.Tests.{le-leb, lt-leb}
 use lib.Dec.{leb}
-use Rattle.record.specs.Records.{tailOf}
-use Rattle.record.proofs.Records.{tail-more}
+use Rattle.record.specs.Records.{recordsIn, tailOf}
+use Rattle.record.proofs.Records.{records-more, tail-more}
 use Rattle.session.specs.Session.{opened}
+use Rattle.report.specs.Program.{firstNumber}
 use Rattle.jobs.specs.declared.Job.{Job}
 use Rattle.jobs.specs.Job.{blockOf, sessionOf}
 use Rattle.jobs.proofs.Jobs.{block-more, session-more, session-none, block-none, result-is}
@@ -20,8 +22,9 @@ use Rattle.stream.specs.Run.{Standing, start, phaseAtStart, Read, came, 
 -- a run that goes on stands as the job leaves it behind what was read; the others have written what they should
 record Stands (job : Job) (s : Standing) (input written : List ℕ) : Type 0 where
   session : s .session ≡ sessionOf job opened input
+  next : s .next ≡ firstNumber + recordsIn input
   rest : s .rest ≡ tailOf input
-  wrote : written ≡ blockOf job opened input
+  wrote : written ≡ blockOf job opened firstNumber input
 
 abbrev Kept : Job → Phase → Standing → List ℕ → List ℕ → Type 0
 Kept job Reading s input written = Stands job s input written
@@ -35,13 +38,14 @@ kept-read : (job : Job) (s : Standing) (input written : List ℕ) (read : Read) 
 unfolding afterRead offered
 kept-read job s input written (came b) e k =
     record {
-      session = rw (k .session, k .rest) (sym (session-more opened input b job));
+      session = rw (k .session, k .rest) (sym (session-more opened firstNumber input b job));
+      next = rw (k .next, k .rest, records-more input b) (add-assoc firstNumber (recordsIn input) (recordsIn (tailOf input ++ b)));
       rest = rw (k .rest) (sym (tail-more input b));
-      wrote = rw (k .wrote, k .session, k .rest) (sym (block-more opened input b job));
+      wrote = rw (k .wrote, k .session, k .next, k .rest) (sym (block-more opened firstNumber input b job));
     }
-kept-read job s input written ended e k = rw (append-nil input, k .wrote, k .session, k .rest) (result-is job input)
+kept-read job s input written ended e k = rw (append-nil input, k .wrote, k .session, k .next, k .rest) (result-is job input)
 kept-read job s input written interrupted e k =
-    rw (e, append-nil input, append-nil written) (record { session = k .session; rest = k .rest; wrote = k .wrote })
+    rw (e, append-nil input, append-nil written) (record { session = k .session; next = k .next; rest = k .rest; wrote = k .wrote })
 kept-read job s input written failed e k = rw (append-nil input, append-nil written) (k .wrote)
 
 kept-turn : (job : Job) (s : Standing) (input written : List ℕ) (turn : Turn) (all : Bool) → turn .written ≡ all → s .phase ≡ Reading →
@@ -67,7 +71,7 @@ unfolding tailOf
 begins job arguments = go (leb arguments 1)
   where
     go : (few : Bool) → Kept job (cond few Reading NotStarted) (start arguments) [] []
-    go true = record { session = session-none job; rest = refl; wrote = block-none job }
+    go true = record { session = session-none job; next = refl; rest = refl; wrote = block-none job }
     go false = (refl, refl)
 
 kept : (job : Job) (arguments : ℕ) (turns : List Turn) → let s = standingOf job arguments turns in

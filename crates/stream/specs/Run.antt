@@ -2,31 +2,33 @@
 use mathlib.Core.Path.{_≡_}
 use mathlib.Core.Bool.{Bool, true, false, cond}
 use mathlib.Core.List.{List, [], _∷_, _++_}
-use Prim.Native.Nat.{ℕ, _≤_, _<_}
+use Prim.Native.Nat.{ℕ, _+_, _≤_, _<_}
 use lib.Dec.{leb}
-use Rattle.record.specs.Records.{tailOf}
+use Rattle.record.specs.Records.{recordsIn, tailOf}
 use Rattle.session.specs.declared.Session.{Session}
 use Rattle.session.specs.Session.{opened}
+use Rattle.report.specs.Program.{firstNumber}
 use Rattle.jobs.specs.declared.Job.{Job}
 use Rattle.jobs.specs.Job.{blockOf, sessionOf, endingOf, resultOf}
 use Rattle.stream.specs.declared.state.Phase.{Phase}
 use Rattle.stream.specs.declared.state.Phase.the-variants.{Reading, Ended, NotStarted, NotRead, NotWritten}
 
--- where a run stands: the session, the bytes held over, and the phase
+-- where a run stands: the session, the number of the next record, the bytes held over, and the phase
 pub record Standing : Type 0 where
   pub session : Session
+  pub next : ℕ
   pub rest : List ℕ
   pub phase : Phase
 
 abbrev pub stopped : Phase → Standing → Standing
-stopped phase s = record { session = s .session; rest = s .rest; phase = phase }
+stopped phase s = record { session = s .session; next = s .next; rest = s .rest; phase = phase }
 
 -- a program that has arguments beside its own name reads nothing
 abbrev pub phaseAtStart : ℕ → Phase
 phaseAtStart arguments = cond (leb arguments 1) Reading NotStarted
 
 abbrev pub start : ℕ → Standing
-start arguments = record { session = opened; rest = []; phase = phaseAtStart arguments }
+start arguments = record { session = opened; next = firstNumber; rest = []; phase = phaseAtStart arguments }
 
 -- what a read comes to
 pub data Read : Type 0 where
@@ -43,14 +45,15 @@ bytesIn failed = []
 
 -- what is to be written after a read
 unfoldable pub offered : Job → Standing → Read → List ℕ
-offered job s (came b) = blockOf job (s .session) (s .rest ++ b)
-offered job s ended = endingOf job (s .session) (s .rest)
+offered job s (came b) = blockOf job (s .session) (s .next) (s .rest ++ b)
+offered job s ended = endingOf job (s .session) (s .next) (s .rest)
 offered job s interrupted = []
 offered job s failed = []
 
 unfoldable pub afterRead : Job → Standing → Read → Standing
 afterRead job s (came b) =
-    record { session = sessionOf job (s .session) (s .rest ++ b); rest = tailOf (s .rest ++ b); phase = Reading }
+    let bytes = s .rest ++ b in
+    record { session = sessionOf job (s .session) bytes; next = s .next + recordsIn bytes; rest = tailOf bytes; phase = Reading }
 afterRead job s ended = stopped Ended s
 afterRead job s interrupted = s
 afterRead job s failed = stopped NotRead s
@@ -99,15 +102,15 @@ pub record Cut (job : Job) (input written : List ℕ) : Type 0 where
   pub before : List ℕ
   pub last : List ℕ
   pub input-is : input ≡ before ++ last
-  pub written-is : written ≡ blockOf job opened before
+  pub written-is : written ≡ blockOf job opened firstNumber before
 
 -- what a run in a phase has written of what it has read. Only one that ended has written what the job makes of a whole input:
 -- the others have written of whole records alone
 abbrev pub Wrote : Job → Phase → List ℕ → List ℕ → Type 0
-Wrote job Reading input written = written ≡ blockOf job opened input
+Wrote job Reading input written = written ≡ blockOf job opened firstNumber input
 Wrote job Ended input written = written ≡ resultOf job input
 Wrote job NotStarted input written = (input ≡ []) × (written ≡ [])
-Wrote job NotRead input written = written ≡ blockOf job opened input
+Wrote job NotRead input written = written ≡ blockOf job opened firstNumber input
 Wrote job NotWritten input written = Cut job input written
 
 -- whatever its reads and writes come to

@@ -2,14 +2,14 @@
 use mathlib.Core.Path.{_≡_}
 use mathlib.Core.Bool.{Bool, true, false, cond, _&&_}
 use mathlib.Core.List.{List}
-use Prim.Native.Nat.{ℕ, _+_, _*_, _/_, _%_}
+use Prim.Native.Nat.{ℕ, _+_, _/_, _%_}
 use lib.Dec.{eqb, leb}
 use lib.IntN.{ℤ, pos, negsuc}
 use lib.ListN.{length, take, drop}
 use Rattle.record.specs.Record.{size}
 use Rattle.digits.specs.Put.{Put}
 use Rattle.lines.specs.Buffer.{putFront}
-use Rattle.lines.specs.Line.{lineRoom}
+use Rattle.report.specs.Block.{linesFit}
 use Rattle.report.specs.Program.{endRoom}
 use Rattle.jobs.specs.declared.Job.{Job}
 use Rattle.stream.specs.declared.state.Phase.the-variants.{NotWritten}
@@ -21,7 +21,8 @@ use Rattle.stream.specs.Run.{Standing, Read, came, ended, interrupted, f
 
 -- where a run stands: the bytes held over are at the front of the buffer
 abbrev pub standing : State → List ℕ → Standing
-standing state buffer = record { session = state .session; rest = take (state .held) buffer; phase = state .phase }
+standing state buffer =
+    record { session = state .session; next = state .next; rest = take (state .held) buffer; phase = state .phase }
 
 -- the number of the error of a call that a signal interrupted
 abbrev pub eintr : ℕ
@@ -49,14 +50,14 @@ readIn End behind = ended
 readIn Interrupted behind = interrupted
 readIn Failed behind = failed
 
--- a buffer of this length has the bytes held over and those that came, and a text of this length has the room of a line for each
--- whole record and of the last lines
-abbrev pub fits : ℕ → ℕ → ℕ → ℕ → Bool
-fits held count buffer text = leb (held + count) buffer && leb (lineRoom * ((held + count) / size)) text && leb endRoom text
+-- a buffer of this length has the bytes held over and those that came, and the lines of their whole records, numbered from `next` on,
+-- and the last lines fit a text of this length
+abbrev pub fits : ℕ → ℕ → ℕ → ℕ → ℕ → Bool
+fits held count next buffer text = leb (held + count) buffer && linesFit next ((held + count) / size) text && leb endRoom text
 
--- where one of the two is too short, the read counts as one that failed
-abbrev pub withRoom : Got → ℕ → ℕ → ℕ → Got
-withRoom got held buffer text = cond (fits held (bytesOf got) buffer text) got Failed
+-- where they do not, the read counts as one that failed
+abbrev pub withRoom : Got → State → ℕ → ℕ → Got
+withRoom got state buffer text = cond (fits (state .held) (bytesOf got) (state .next) buffer text) got Failed
 
 -- how many bytes are held over after a read
 abbrev pub heldAfter : ℕ → Read → ℕ
@@ -75,9 +76,9 @@ pub record FollowsBy (job : Job) (state : State) (read : Read) (buffer text : Li
 -- by what the read came to, with room or without
 abbrev pub Follows : Job → State → Got → List ℕ → List ℕ → Step → List ℕ → List ℕ → Type 0
 Follows job state got buffer text =
-    FollowsBy job state (readIn (withRoom got (state .held) (length buffer) (length text)) (drop (state .held) buffer)) buffer text
+    FollowsBy job state (readIn (withRoom got state (length buffer) (length text)) (drop (state .held) buffer)) buffer text
 
 -- what follows a write
 abbrev pub writeAfter : Bool → State → State
 writeAfter true s = s
-writeAfter false s = record { session = s .session; held = s .held; phase = NotWritten }
+writeAfter false s = record { session = s .session; next = s .next; held = s .held; phase = NotWritten }

@@ -13,9 +13,10 @@ pub enum Phase {
     NotWritten,
 }
 
-// The session, how many bytes are held over at the front of the buffer, and the phase.
+// The session, the number of the next record, how many bytes are held over at the front of the buffer, and the phase.
 pub struct State {
     pub session: Session,
+    pub next: u64,
     pub held: usize,
     pub phase: Phase,
 }

@@ -1,9 +1,10 @@
 // What follows a read and what follows a write: functions of the state and the buffers alone.
 ghost use mathlib.Core.Path.{_≡_};
-ghost use Prim.Native.Nat.{_*_, _≤_};
-ghost use lib.ListN.{length, take};
-ghost use Rattle.record.specs.Records.{recordsIn};
-ghost use Rattle.lines.specs.Line.{lineRoom};
+ghost use mathlib.Core.Bool.{true};
+ghost use Prim.Native.Nat.{_/_, _≤_};
+ghost use lib.ListN.{length};
+ghost use Rattle.record.specs.Record.{size};
+ghost use Rattle.report.specs.Block.{linesFit};
 ghost use Rattle.stream.specs.Step.{Follows, writeAfter};
 ghost use Rattle.stream.specs.Inside.{countOf, Ready, FollowsIn, TakesIn};
 use super::front::move_to_front;
@@ -16,7 +17,6 @@ use jobs::finish;
 use jobs::work;
 use lines::Text;
 use record::SIZE;
-use session::Session;
 
 // The state after a read, and how many bytes of the text are to be written.
 pub struct Step {
@@ -24,29 +24,31 @@ pub struct Step {
     pub offered: usize,
 }
 
-// What follows a read whose bytes stand in the buffer behind those held over. Where the buffer or the text is too short for them, it
-// counts as a read that failed.
+// What follows a read whose bytes stand in the buffer behind those held over. Where they do not fit the buffer and the text, it counts
+// as a read that failed.
 pub fn after_read(job: Job, state: State, got: Got, buffer: &mut [u8], text: &mut [u8]) -> Step
     ensures { λ r. ⌜ Follows job state got (now (buffer .entry)) (now (text .entry)) r (now (buffer .exit)) (now (text .exit)) ⌝ }
 {
-    let read = with_room(got, state.held, buffer.len(), text.len());
+    let read = with_room(got, state, buffer.len(), text.len());
     follow(job, state, read, buffer, text)
 }
 
-// The same, where both have the room.
+// The same, where they do.
 fn follow(job: Job, state: State, got: Got, buffer: &mut [u8], text: &mut [u8]) -> Step
-    requires { ⌜ Ready got (state .held) (length (now buffer)) (length (now text)) ⌝ }
+    requires { ⌜ Ready got state (length (now buffer)) (length (now text)) ⌝ }
     ensures { λ r. ⌜ FollowsIn job state got (now (buffer .entry)) (now (text .entry)) r (now (buffer .exit)) (now (text .exit)) ⌝ }
 {
     let session = state.session;
+    let next = state.next;
     let held = state.held;
     match got {
-        Got::Bytes(n) => take_in(job, session, held + n, buffer, text),
+        Got::Bytes(n) => take_in(job, state, held + n, buffer, text),
         Got::End => {
-            let lines = finish(job, session, &buffer[..held], text);
+            let lines = finish(job, session, next, &buffer[..held], text);
             Step {
                 state: State {
                     session,
+                    next,
                     held,
                     phase: Phase::Ended,
                 },
@@ -57,6 +59,7 @@ fn follow(job: Job, state: State, got: Got, buffer: &mut [u8], text: &mut [u8]) 
         Got::Failed => Step {
             state: State {
                 session,
+                next,
                 held,
                 phase: Phase::NotRead,
             },
@@ -66,18 +69,21 @@ fn follow(job: Job, state: State, got: Got, buffer: &mut [u8], text: &mut [u8]) 
 }
 
 // Works on the whole records among the first `total` bytes of the buffer, and holds over those behind them.
-fn take_in(job: Job, session: Session, total: usize, buffer: &mut [u8], text: &mut [u8]) -> Step
-    requires { ⌜ (total ≤ length (now buffer)) × (lineRoom * recordsIn (take total (now buffer)) ≤ length (now text)) ⌝ }
-    ensures { λ r. ⌜ TakesIn job session total (now (buffer .entry)) (now (text .entry)) r (now (buffer .exit)) (now (text .exit)) ⌝ }
+fn take_in(job: Job, state: State, total: usize, buffer: &mut [u8], text: &mut [u8]) -> Step
+    requires { ⌜ (total ≤ length (now buffer)) × (linesFit (state .next) (total / size) (length (now text)) ≡ true) ⌝ }
+    ensures { λ r. ⌜ TakesIn job state total (now (buffer .entry)) (now (text .entry)) r (now (buffer .exit)) (now (text .exit)) ⌝ }
 {
-    let block = work(job, session, &buffer[..total], text);
-    let next = block.session;
+    let session = state.session;
+    let next = state.next;
+    let block = work(job, session, next, &buffer[..total], text);
+    let after = block.session;
     let lines = block.text;
     let held = total % SIZE;
     move_to_front(buffer, total - held, total);
     Step {
         state: State {
-            session: next,
+            session: after,
+            next: next + (total / SIZE) as u64,
             held,
             phase: Phase::Reading,
         },
@@ -105,6 +111,7 @@ pub fn after_write(state: State, written: bool) -> State
     let session = state.session;
     State {
         session,
+        next: state.next,
         held: state.held,
         phase: Phase::NotWritten,
     }

@@ -111,16 +111,31 @@ pub fn breadths(row: &Row, y: i128) -> Vec<i128> {
     signed(&[0, 1, 2, w - 2, w - 1, w, w + 1, equator, equator + 1])
 }
 
+/// Both ends of the rows at 45 degrees either way, and one unit past each: the heights are at other latitudes.
+pub fn halfway(row: &Row) -> Vec<[i128; 2]> {
+    let y = row_y(row, RIGHT_ANGLE / 2);
+    let w = row_width(row, row_latitude(row, y));
+    let ends = signed(&[w, w + 1]);
+    let at = |y: i128| ends.iter().map(move |x| [*x, y]);
+    [-y, y].into_iter().flat_map(at).collect()
+}
+
+/// Every breadth at every height, and the ends halfway.
+pub fn row_edges(row: &Row) -> Vec<[i128; 2]> {
+    let at = |y: i128| breadths(row, y).into_iter().map(move |x| [x, y]);
+    let mut places: Vec<[i128; 2]> = heights(row).into_iter().flat_map(at).collect();
+    places.extend(halfway(row));
+    places
+}
+
 pub fn places() -> Vec<Request> {
     let mut requests = Vec::new();
     let mut centrals = CENTRALS.into_iter().cycle();
     for kind in 1..=KINDS {
         let row = row_of(kind).expect("a kind of the table");
-        for y in heights(&row) {
-            for x in breadths(&row, y) {
-                let central = centrals.next().expect("an endless list");
-                requests.extend(place(kind, central, x, y).handed_on());
-            }
+        for [x, y] in row_edges(&row) {
+            let central = centrals.next().expect("an endless list");
+            requests.extend(place(kind, central, x, y).handed_on());
         }
     }
     requests
@@ -136,8 +151,8 @@ fn mixtures() -> Vec<Request> {
                     requests.push(position(kind, central, longitude, latitude));
                 }
             }
-            for x in [0, -400_000_000, LEAST] {
-                for y in [0, 200_000_000, GREATEST] {
+            for x in [0, 400_000_000, -400_000_000, GREATEST, LEAST] {
+                for y in [0, 200_000_000, -200_000_000, GREATEST, LEAST] {
                     requests.push(place(kind, central, x, y));
                 }
             }

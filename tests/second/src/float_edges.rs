@@ -62,8 +62,8 @@ pub fn in_each_place(kind: i128, x: f64) -> [Request; 6] {
 pub fn mixtures() -> Vec<Request> {
     let nan = f64::from_bits(NANS[1]);
     let centrals = [0.5, 180.0_f64.next_up(), -181.0, nan, -INFINITE];
-    let firsts = [-0.5, -180.0_f64.next_up(), 5e8, INFINITE, -nan];
-    let seconds = [0.25, 90.0_f64.next_up(), -2e8, nan, INFINITE];
+    let firsts = [-0.5, -180.0_f64.next_up(), 5e8, -5e8, INFINITE, -nan];
+    let seconds = [0.25, 90.0_f64.next_up(), 2e8, -2e8, nan, INFINITE];
     let mut requests = Vec::new();
     for kind in [1, 9, 0, KINDS + 1] {
         for central in centrals {
@@ -137,15 +137,17 @@ fn about_half(n: i128) -> Vec<f64> {
     vec![n, n + 0.49, (n + 0.5).next_down(), n + 0.5]
 }
 
-/// Places about the edge of the row at some latitudes, the pole among them, there and back.
+/// Places about the edge of the row at some latitudes, the pole among them, on each side, and the north-eastern ones there and
+/// back.
 pub fn places() -> Vec<Request> {
     let mut requests = Vec::new();
     for kind in 1..=KINDS {
         let row = row_of(kind).expect("a kind of the table");
-        for latitude in [0, HALF_TURN / 3, RIGHT_ANGLE] {
+        for latitude in [0, RIGHT_ANGLE / 2, HALF_TURN / 3, RIGHT_ANGLE] {
             for (x, y) in edge_of_row(&row, latitude) {
                 requests.extend(place(kind, -12.5, x, y).handed_on());
-                requests.push(place(kind, 12.5, -x, -y));
+                let turned = [(-x, y), (x, -y), (-x, -y)];
+                requests.extend(turned.map(|(x, y)| place(kind, 12.5, x, y)));
             }
         }
     }

@@ -27,7 +27,7 @@ pub fn place(kind: i128, central: f64, x: f64, y: f64) -> Request {
     Request::FloatPlace(kind, [central, x, y])
 }
 
-/// The cases of document 01 that floats can ask for.
+/// The cases of document 01 and of document 02's order 6 that floats can ask for.
 fn document() -> Vec<Request> {
     vec![
         // P1, P2 and P11 in degrees
@@ -51,6 +51,12 @@ fn document() -> Vec<Request> {
         place(7, 0.0, 0.0, 125331414.5),
         place(7, 0.0, 0.49, 125331414.49),
         place(7, 0.0, 0.5, 125331414.49),
+        // its other sides
+        place(7, 0.0, -0.0, 125331414.0),
+        place(7, 0.0, -0.4, 125331414.0),
+        place(7, 0.0, -0.5, 125331414.0),
+        place(7, 0.0, -0.5, -125331414.49),
+        place(7, 0.0, 0.5, -125331414.5),
     ]
 }
 

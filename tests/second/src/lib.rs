@@ -1,5 +1,5 @@
-//! Document 01's rules and document 02's orders 1, 2, 3 and 5 once more, with no code of the product, and inputs for them: at
-//! every edge, and at random from a seed.
+//! Document 01's rules and document 02's orders 1, 2, 3, 5 and 6 once more, with no code of the product, and inputs for them:
+//! at every edge, and at random from a seed.
 pub mod arcminutes;
 pub mod edges;
 pub mod float;
@@ -33,7 +33,7 @@ pub mod text_requests;
 pub mod wide;
 
 /// Stops where the second program has something else than the documents' table and record, another half-width of kinds 3 and 4,
-/// another sine, another text, or another note.
+/// another side's refusal, another sine, another text, or another note.
 pub fn check() {
     sine::check();
     table::check();

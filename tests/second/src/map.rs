@@ -1,5 +1,5 @@
-//! Document 01's rules in 128-bit arithmetic, and the half-widths of document 02's order 5. What takes a row serves those of the
-//! table and the retired ones.
+//! Document 01's rules in 128-bit arithmetic, with the half-widths of document 02's order 5 and the refusals of its order 6. What
+//! takes a row serves those of the table and the retired ones.
 use crate::rounding::{floor_root, nearest};
 use crate::sine::{cosine, ONE};
 use crate::table::{retired_row_of, row_of, Outline, Row};
@@ -31,7 +31,15 @@ impl Answer {
 const POINTED: [i128; 2] = [297650196, 0];
 const FLAT: [i128; 2] = [297650196, 148825098];
 
-/// Stops where the rows of kinds 3 and 4 have other half-widths.
+/// Places of kind 7 a unit past the pole, which is a point, and the refusals that name the sides: north, south, east and west.
+const PAST_THE_POLE: [([i128; 2], u8); 4] = [
+    ([0, 125331415], 6),
+    ([0, -125331415], 18),
+    ([1, 125331414], 7),
+    ([-1, 125331414], 17),
+];
+
+/// Stops where the rows of kinds 3 and 4 have other half-widths, or a place past the pole is not refused by its side's number.
 pub fn check() {
     let rows = [row_of(3), row_of(4), retired_row_of(3), retired_row_of(4)];
     let ends = rows.map(|row| {
@@ -39,6 +47,10 @@ pub fn check() {
         [0, RIGHT_ANGLE].map(|p| row_width(&row, p))
     });
     assert_eq!(ends, [POINTED, FLAT, FLAT, POINTED], "kinds 3 and 4");
+    for ([x, y], number) in PAST_THE_POLE {
+        let answer = inverse(7, 0, x, y).pair();
+        assert_eq!(answer, Err(number), "the side of {x} {y}");
+    }
 }
 
 /// The half-width at a latitude of size p.
@@ -120,13 +132,20 @@ pub fn row_inverse(row: &Row, central: i128, x: i128, y: i128) -> Answer {
     if central.abs() > HALF_TURN {
         return Answer::Refused(3);
     }
-    if y.abs() > row_y(row, RIGHT_ANGLE) {
+    let pole = row_y(row, RIGHT_ANGLE);
+    if y > pole {
         return Answer::Refused(6);
+    }
+    if y < -pole {
+        return Answer::Refused(18);
     }
     let latitude = row_latitude(row, y);
     let w = row_width(row, latitude.abs());
-    if x.abs() > w {
+    if x > w {
         return Answer::Refused(7);
+    }
+    if x < -w {
+        return Answer::Refused(17);
     }
     let d = if w == 0 { 0 } else { nearest(x * HALF_TURN, w) };
     Answer::Pair(wrapped(central + d), latitude)

@@ -55,7 +55,7 @@ impl Record {
         [first, numbers[0], numbers[1], numbers[2]].concat()
     }
 
-    /// The moved record, or the number of the refusal: of 9, 10, 1 and 3 to 7 the first that applies.
+    /// The moved record, or the number of the refusal: of 9, 10, 1, 3, then 4 and 5 or 6, 18, 7 and 17 the first that applies.
     pub fn converted(&self) -> Result<Record, u8> {
         if self.mark != MARK {
             return Err(9);

@@ -1,6 +1,6 @@
 //! Records at the edges: each byte of mark, kind and form, the limits of each number, and refusals beside each other.
 use crate::arcminutes;
-use crate::edges::{breadths, heights, latitudes, longitudes, signed, GREATEST, LEAST};
+use crate::edges::{latitudes, longitudes, row_edges, signed, GREATEST, LEAST};
 use crate::map::{HALF_TURN, RIGHT_ANGLE};
 use crate::record::{record, Record, DOCUMENT, MARK, PLACE, POSITION};
 use crate::record_random::Chance;
@@ -57,8 +57,24 @@ fn asking(request: &Request) -> Option<Record> {
     }
 }
 
-/// How many things can be wrong with a record: mark, form, kind, central meridian and the two numbers of its form.
-const FAULTS: usize = 6;
+/// How many things can be wrong with a record: mark, form, kind and central meridian, then longitude and latitude of a
+/// position; or y of a place, to the north and to the south, and x, to the east and to the west.
+fn faults(form: u8) -> usize {
+    match form {
+        POSITION => 6,
+        _ => 8,
+    }
+}
+
+/// Whether a record can have all the faults that `which` names: no place is past both poles, or past both edges.
+fn possible(form: u8, which: usize) -> bool {
+    form == POSITION || [4, 6].iter().all(|first| which >> first & 3 != 3)
+}
+
+/// Every mixture of faults that a record can have.
+pub fn mixed_faults(form: u8) -> impl Iterator<Item = usize> {
+    (0..1 << faults(form)).filter(move |which| possible(form, *which))
+}
 
 /// The first kind that is none.
 const NO_KIND: u8 = KINDS as u8 + 1;
@@ -73,8 +89,8 @@ pub fn faulty(form: u8, kind: i128, which: usize) -> Record {
         let latitude = number(5, 30 * DEGREE, RIGHT_ANGLE + 1);
         record(form, kind, [central, longitude, latitude])
     } else {
-        let y = number(4, 40_000_000, -200_000_000);
-        let x = number(5, 50_000_000, 400_000_000);
+        let y = number(4, number(5, 40_000_000, -200_000_000), 200_000_000);
+        let x = number(6, number(7, 50_000_000, -400_000_000), 400_000_000);
         record(form, kind, [central, x, y])
     };
     Record {
@@ -85,15 +101,17 @@ pub fn faulty(form: u8, kind: i128, which: usize) -> Record {
     }
 }
 
-/// For a position and for a place: no fault, each fault alone, then every two, so that the order shows.
+/// For a position and for a place: no fault, each fault alone, then every two that it can have, so that the order shows.
 pub fn refusals() -> Vec<Record> {
     let mut records = Vec::new();
     for form in [POSITION, PLACE] {
         let with = |which| faulty(form, 5, which);
+        let all = 0..faults(form);
         records.push(with(0));
-        records.extend((0..FAULTS).map(|fault| with(1 << fault)));
-        for first in 0..FAULTS {
-            records.extend((first + 1..FAULTS).map(|second| with(1 << first | 1 << second)));
+        records.extend(all.clone().map(|fault| with(1 << fault)));
+        for first in all.clone() {
+            let two = (first + 1..all.end).map(|second| 1 << first | 1 << second);
+            records.extend(two.filter(|which| possible(form, *which)).map(with));
         }
     }
     records
@@ -104,7 +122,7 @@ fn mixtures() -> Vec<Record> {
     let mut kinds = by_turns();
     let mut records = Vec::new();
     for form in [POSITION, PLACE] {
-        for which in 0..1 << FAULTS {
+        for which in mixed_faults(form) {
             let kind = kinds.next().expect("an endless list");
             records.push(faulty(form, kind, which));
         }
@@ -132,16 +150,22 @@ pub fn every_byte(good: &Record, at: usize) -> Vec<Record> {
     (0..=255).map(with).collect()
 }
 
-/// The ends of 32 bits and the first numbers past the ranges, in each place and in all three, for every kind in both forms.
+/// The ends of 32 bits and the first numbers past the ranges, in each place, in the last two and in all three, for every kind in
+/// both forms.
 fn far_numbers() -> Vec<Record> {
     let past = [LEAST, LEAST + 1, GREATEST, HALF_TURN + 1, -HALF_TURN - 1];
     let mut records = Vec::new();
     for kind in 1..=KINDS {
         for form in [POSITION, PLACE] {
             for far in past {
-                for numbers in [[far, 1, 2], [3, far, 4], [5, 6, far], [far; 3]] {
-                    records.push(record(form, kind, numbers));
-                }
+                let all = [
+                    [far, 1, 2],
+                    [3, far, 4],
+                    [5, 6, far],
+                    [7, far, far],
+                    [far; 3],
+                ];
+                records.extend(all.map(|numbers| record(form, kind, numbers)));
             }
         }
     }
@@ -183,11 +207,9 @@ fn places() -> Vec<Record> {
     let mut centrals = centrals().into_iter().cycle();
     for kind in 1..=KINDS {
         let row = row_of(kind).expect("a kind of the table");
-        for y in heights(&row) {
-            for x in breadths(&row, y) {
-                let central = centrals.next().expect("an endless list");
-                records.push(record(PLACE, kind, [central, x, y]));
-            }
+        for [x, y] in row_edges(&row) {
+            let central = centrals.next().expect("an endless list");
+            records.push(record(PLACE, kind, [central, x, y]));
         }
     }
     records

@@ -6,8 +6,8 @@ use crate::session::fill;
 use crate::table::{retired_row_of, row_of};
 use std::io::{self, BufReader, BufWriter, Read, Write};
 
-/// Why a record passes as it is where no refusal says it. The refusals are 9, 10 and, of the retired row, 3, 6 and 7; a tail
-/// passes by 8.
+/// Why a record passes as it is where no refusal says it. The refusals are 9, 10 and, of the retired row, 3, 6, 18, 7 and 17; a
+/// tail passes by 8.
 pub const A_POSITION: u8 = 100;
 pub const OTHER_KIND: u8 = 101;
 

@@ -1,9 +1,9 @@
 //! Records for the program `reproject`: places at the edges of the retired rows and of the new ones, and all that passes.
-use crate::edges::{breadths, heights, signed, GREATEST, LEAST};
+use crate::edges::{breadths, halfway, heights, signed, GREATEST, LEAST};
 use crate::halves::{breadth, breadth_beside, difference, difference_beside};
 use crate::map::{row_width, row_y, HALF_TURN, RIGHT_ANGLE};
 use crate::record::{record, Record, LENGTH, PLACE, POSITION};
-use crate::record_cases::{every_byte, faulty, joined};
+use crate::record_cases::{every_byte, faulty, joined, mixed_faults};
 use crate::record_random::Chance;
 use crate::requests::{seeded, within, DEGREE};
 use crate::rounding::nearest;
@@ -88,12 +88,12 @@ fn first_bytes() -> Vec<Record> {
         .collect()
 }
 
-/// A good record, each fault alone and every two, for each kind in both forms.
+/// A good record, each fault alone and every two that it can have, for each kind in both forms.
 fn faults() -> Vec<Record> {
     let mut records = Vec::new();
     for kind in 1..=KINDS {
         for form in [POSITION, PLACE] {
-            let few = (0..64_usize).filter(|which| which.count_ones() < 3);
+            let few = mixed_faults(form).filter(|which| which.count_ones() < 3);
             records.extend(few.map(|which| faulty(form, kind, which)));
         }
     }
@@ -116,6 +116,7 @@ fn places(kind: i128) -> Vec<[i128; 2]> {
             let xs = breadths(&row, y).into_iter().chain(ends);
             places.extend(xs.map(|x| [x, y]));
         }
+        places.extend(halfway(&row));
     }
     places.sort();
     places.dedup();

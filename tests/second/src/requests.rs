@@ -89,8 +89,8 @@ fn random() -> Vec<Request> {
     requests
 }
 
-/// The cases of document 01 that numbers can ask for.
-pub const DOCUMENT: [&str; 22] = [
+/// The cases of document 01 and of document 02's order 6 that numbers can ask for.
+pub const DOCUMENT: [&str; 24] = [
     // P1 and P2
     "f 1 0 32400000 16200000",
     "f 1 0 -32400000 -16200000",
@@ -117,6 +117,9 @@ pub const DOCUMENT: [&str; 22] = [
     "i 7 0 0 125331414",
     "i 7 0 1 125331414",
     "i 7 0 0 125331415",
+    // its other sides
+    "i 7 0 -1 125331414",
+    "i 7 0 0 -125331415",
 ];
 
 /// Lines with something missing, too much or out of place; spaces may be left out or doubled.

@@ -33,20 +33,21 @@ impl Session {
     }
 }
 
-/// A line for each record and for a tail, then the counts.
+/// A line for each record and for a tail, then the counts. The line of a refusal says which record it is, from 1; a tail is the
+/// next one.
 pub fn convert(input: impl Read, output: impl Write) -> io::Result<()> {
     let mut input = BufReader::with_capacity(1 << 20, input);
     let mut output = BufWriter::with_capacity(1 << 20, output);
     let mut session = Session::default();
     let mut piece = [0; LENGTH];
-    loop {
+    for at in 1_u64.. {
         let length = fill(&mut input, &mut piece)?;
         if length == 0 {
             break;
         }
         match session.feed(&piece[..length]) {
             Ok(moved) => writeln!(output, "{} {}", moved.numbers[1], moved.numbers[2])?,
-            Err(number) => writeln!(output, "refused {number}")?,
+            Err(number) => writeln!(output, "refused {number} at {at}")?,
         }
     }
     writeln!(

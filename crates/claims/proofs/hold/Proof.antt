@@ -1,7 +1,7 @@
 -- `claims::hold` meets its contract: each claim, by its law.
 use mathlib.Core.Bool.{Bool, true, false, cond}
 use mathlib.Core.List.{List, [], _∷_}
-use mathlib.Core.Path.{_≡_, refl, sym, _∙_}
+use mathlib.Core.Path.{_≡_, refl}
 use Prim.Native.Nat.{ℕ, suc, _*_, _^_, _≤_}
 use native.Mathlib.Omega.{arith}
 use borrow.Author.Tests.{le-leb}
@@ -23,7 +23,7 @@ use Rattle.parallel.specs.Table.{rows, rowOf}
 use Rattle.parallel.specs.Parallel.{radicand, qBy, qAt, oneBy, oneOf, numerator, halfWidth, height}
 use Rattle.parallel.specs.Columns.{combined, Usable}
 use Rattle.parallel.specs.Latitude.{yOf}
-use Rattle.parallel.specs.Refusal.{given, isKind, unless}
+use Rattle.parallel.specs.Refusal.{isKind, unless}
 use Rattle.parallel.specs.Answer.{widthOrder, widthOf}
 use Rattle.parallel.proofs.Rows.{kind-range, columns}
 use Rattle.parallel.proofs.Widths.{combined-whole, radicand-whole, numerator-whole, width-small}
@@ -35,25 +35,14 @@ use Rattle.reading.specs.Reading.{readOf, centiseconds, units}
 use Rattle.degrees.specs.Writing.{degreesOf, unitsOf}
 use Rattle.degrees.specs.Answer.{writtenPlace, writtenPosition, forwardOrder as forwardDegreesOrder, inverseOrder as inverseDegreesOrder, forwardOf as forwardDegrees, inverseOf as inverseDegrees}
 use Rattle.degrees.proofs.Written.{degrees-stand, units-stand}
-use Rattle.little_endian.specs.Number.{bytesOf, numberAt}
 use Rattle.iso6709.specs.Answer.{latitudeIn, longitudeIn, positionIn, readOrder, readOf as readText, textOf, writeOrder, writeOf as writeText}
-use Rattle.record.specs.Record.{recordOf, kindIn, formIn, centralIn, firstIn, secondIn, movedOf}
-use Rattle.record.specs.Records.{recordAt, tailOf}
+use Rattle.record.specs.Record.{kindIn, formIn, centralIn, firstIn, secondIn}
 use Rattle.record.specs.Answer.{pairOrder, pairOf, convertOrder, convertOf, outputAfter}
 use Rattle.note.specs.Note.{narrow, noteOf, countsIn}
 use Rattle.note.specs.Answer.{writeOrder as saveOrder, readOrder as restoreOrder, writtenAs}
-use Rattle.session.specs.Session.{opened, feedOrder, feedOf, sessionAfter}
+use Rattle.session.specs.Session.{feedOrder, feedOf}
 use Rattle.session.specs.Handover.{withCounts}
-use Rattle.session.proofs.Orders.{fed}
 use Rattle.session.proofs.Handovers.{restored-order}
-use Rattle.lines.specs.Decimal.{digitsIn, decimalOf, numberText}
-use Rattle.lines.specs.Line.{lineOf, closingOf}
-use Rattle.lines.proofs.Decimals.{is-decimal}
-use Rattle.report.specs.Block.{answerAt, sessionAt, linesOf, blockSession, blockLines}
-use Rattle.report.specs.Program.{endOf, printedFrom, printedOf}
-use Rattle.report.proofs.Blocks.{sessions-compose, lines-compose}
-use Rattle.report.proofs.Streams.{reads-do-not-matter, tail-refused, session-of-history}
-use Rattle.stream.proofs.Runs.{runs-write, runs-end}
 use Rattle.claims.specs.Arithmetic.{Arithmetic}
 use Rattle.claims.specs.Demand1.{numbersOf, byForm, Demand1}
 use Rattle.claims.specs.Demand2.{Demand2, Parallel}
@@ -61,8 +50,7 @@ use Rattle.claims.specs.Demand3.{Demand3, numbers, floats}
 use Rattle.claims.specs.Demands.{Demands}
 use Rattle.claims.specs.RecordLaws.{converting, feeding}
 use Rattle.claims.specs.Examples.{Examples, examples}
-use Rattle.claims.specs.RecordExample.{RecordExample, input}
-use Rattle.claims.specs.Printing.{Printing}
+use Rattle.claims.specs.RecordExample.{input}
 use Rattle.claims.specs.Written.{Written, DegreesBack}
 use Rattle.claims.proofs.Bound.{within-one, one-is-m}
 use Rattle.claims.proofs.Roots.{exact}
@@ -78,6 +66,9 @@ use Rattle.claims.proofs.Calls.{by-numbers}
 use Rattle.claims.proofs.Floats.{floats-by-numbers}
 use Rattle.claims.proofs.Pieces.{converting-answers, feeding-answers}
 use Rattle.claims.proofs.Records.{records-by-numbers}
+use Rattle.claims.proofs.Edges.{edges}
+use Rattle.claims.proofs.TurnedPlaces.{turned-places}
+use Rattle.claims.proofs.Printed.{record-example, printing}
 use Rattle.claims.proofs.Events.{histories}
 use Rattle.claims.proofs.Notes.{notes}
 use Rattle.claims.proofs.Statuses.{interface}
@@ -109,7 +100,7 @@ unfolding pairOrder
 pair-numbers bytes = go (eqb (formIn bytes) 0) (kindIn bytes) (centralIn bytes) (firstIn bytes) (secondIn bytes)
   where
     go : (b : Bool) (kind : ℕ) (c u v : ℤ) →
-        numbersOf (cond b (forwardOrder kind c u v) (inverseOrder kind c u v)) ≡ 1 ∷ 3 ∷ cond b (4 ∷ 5 ∷ []) (6 ∷ 7 ∷ [])
+        numbersOf (cond b (forwardOrder kind c u v) (inverseOrder kind c u v)) ≡ 1 ∷ 3 ∷ cond b (4 ∷ 5 ∷ []) (6 ∷ 18 ∷ 7 ∷ 17 ∷ [])
     go true kind c u v = refl
     go false kind c u v = refl
 
@@ -193,14 +184,6 @@ worked : Examples
 unfolding examples forwardOf unless isKind placeOf xOf yOf height wrap rowOf rows halfWidth numerator oneOf oneBy qAt radicand qBy nearest carry root rootIn readOf
 worked = record { numbers = refl; values = refl }
 
-record-answer : convertOf input 16 ≡ given (pos 157079633, pos 78539816)
-unfolding convertOf unless pairOrder pairOf numberAt isKind placeOf xOf yOf height wrap rowOf rows halfWidth numerator oneOf oneBy qAt radicand qBy nearest carry
-record-answer = refl
-
-record-example : RecordExample
-unfolding outputAfter movedOf recordOf bytesOf numberAt
-record-example = record { answer = record-answer; written = λ output h. rw (h, record-answer) }
-
 arithmetic : Arithmetic
 arithmetic =
     record {
@@ -214,28 +197,9 @@ arithmetic =
       right-angle = refl;
     }
 
-fed-answer : feedOf opened input 16 ≡ given (pos 157079633, pos 78539816)
-fed-answer = sym (fed opened input 16 refl) ∙ record-answer
-
-printing : Printing
-unfolding printedOf printedFrom blockLines blockSession tailOf linesOf sessionAt answerAt recordAt endOf lineOf closingOf sessionAfter numberText decimalOf digitsIn
-printing =
-    record {
-      decimal = is-decimal;
-      sessions = sessions-compose;
-      lines = lines-compose;
-      reads = reads-do-not-matter;
-      runs = runs-write;
-      runs-end = runs-end;
-      tail = tail-refused;
-      counts = session-of-history;
-      document = rw fed-answer;
-      empty = refl;
-    }
-
 returns : tie.Need-returns
 returns c =
-    (demands, sharp, worked, record-example, arithmetic, house-sine, cosine-kinds, written, printing, interface, texts, text-examples, notes, exchange, reprojection, reprojection-examples, reprojected-runs)
+    (demands, edges, turned-places, sharp, worked, record-example, arithmetic, house-sine, cosine-kinds, written, printing, interface, texts, text-examples, notes, exchange, reprojection, reprojection-examples, reprojected-runs)
 
 pub hold-spec : {M : Type 1} → statement M
 hold-spec = tie.close (tie.spec returns)

@@ -11,7 +11,7 @@ returns c =
     let told = c .before .before .before .before in
     let a = told .before .before .before .before .args in
     rw (told .enum-told .given .1)
-    (convert-ends (a .session) (now (a .rest)) (now (a .text)) (lines .last .1 .1 .0) (lines .result) (lines .ensures))
+    (convert-ends (a .session) (a .next) (now (a .rest)) (now (a .text)) (lines .last .1 .1 .1 .0) (lines .result) (lines .ensures))
 
 returns-2 : tie.Need-returns-2
 returns-2 c =
@@ -19,7 +19,7 @@ returns-2 c =
     let told = c .before .before .before .before in
     let a = told .before .before .before .before .args in
     rw (told .enum-told2 .given .1)
-    (reproject-ends (a .session) (now (a .rest)) (now (a .text)) (copy .last .1 .0) (copy .result) (copy .ensures))
+    (reproject-ends (a .session) (a .next) (now (a .rest)) (now (a .text)) (copy .last .1 .0) (copy .result) (copy .ensures))
 
 pub finish-spec : {M : Type 1} → statement M
 finish-spec =

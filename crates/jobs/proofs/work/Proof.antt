@@ -11,7 +11,7 @@ returns c =
     let told = c .before .before .before .before in
     let a = told .before .before .before .before .args in
     rw (told .enum-told .given .1)
-    (convert-works (a .session) (now (a .input)) (now (a .text)) (block .last .1 .1 .0) (block .result) (block .ensures))
+    (convert-works (a .session) (a .next) (now (a .input)) (now (a .text)) (block .last .1 .1 .1 .0) (block .result) (block .ensures))
 
 returns-2 : tie.Need-returns-2
 returns-2 c =
@@ -19,7 +19,7 @@ returns-2 c =
     let told = c .before .before .before .before in
     let a = told .before .before .before .before .args in
     rw (told .enum-told2 .given .1)
-    (reproject-works (a .session) (now (a .input)) (now (a .text)) (block .last .1 .0) (block .result) (block .ensures))
+    (reproject-works (a .session) (a .next) (now (a .input)) (now (a .text)) (block .last .1 .0) (block .result) (block .ensures))
 
 pub work-spec : {M : Type 1} → statement M
 work-spec =

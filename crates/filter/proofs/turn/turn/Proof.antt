@@ -59,7 +59,7 @@ returns c =
     rw (toZ-ofZ {w = w64} (record { sfits = b .before .read .ok }))
     (turns-by (a .job) (a .state) (before b) (after b) (now (a .text)) (b .before .read .result) _ (read .after-read .result)
     (read .after-read .last .1 .1 .1 .0) (read .after-read .last .1 .1 .1 .1 .0) (c .before .write-all .result) (got .result) (c .after-write .result)
-    (moved b) (start b .pre .1) (room b) (stays b) (rw (toZ-ofZ {w = w64} (record { sfits = b .before .read .ok })) at (got .ensures))
+    (moved b) (start b .pre .1) (start b .pre .2) (room b) (stays b) (rw (toZ-ofZ {w = w64} (record { sfits = b .before .read .ok })) at (got .ensures))
     (read .after-read .ensures) (c .after-write .ensures))
 
 pub turn-spec : {M : Type 1} → statement M

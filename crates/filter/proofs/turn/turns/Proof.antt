@@ -1,21 +1,23 @@
 -- `filter::turn::turns` meets its contract: the run came to stand where it stands by the turns that it took.
 use mathlib.Core.Path.{_≡_, sym, _∙_}
 use mathlib.Core.List.{[], _∷_}
-use Prim.Native.Nat.{_-_, _<_}
+use Prim.Native.Nat.{_+_, _-_, _*_, _≤_, _<_}
 use native.Mathlib.Omega.{arith}
 use borrow.Author.Needs.{needs}
 use Rattle.record.specs.Record.{size}
+use Rattle.report.specs.Block.{mostNumber}
 use Rattle.stream.specs.declared.state.Phase.the-variants.{Reading}
 use Rattle.stream.specs.Run.{Turn, standingOf}
 use Rattle.stream.specs.Step.{gotOf, readIn, standing}
-use Rattle.filter.specs.Turns.{Room, Reached, limit}
-use Rattle.filter.proofs.Turns.{falls, still, left-at, goes-on}
+use Rattle.filter.specs.Turns.{records, Room, Reached, limit}
+use Rattle.filter.proofs.Turns.{falls, still, left-at, left-le, goes-on}
 use Rattle.filter.proofs.turn.turns.Statement.{statement}
 use Rattle.filter.proofs.turn.turns.Tie as tie
 
 abbrev Inv-loop : tie.InvT-loop
 Inv-loop job arguments buffer₀ text₀ state₀ left₀ buffer text state left =
     Room buffer text × (state .held < size) × Reached job arguments (standing state buffer) left × (0 < left → state .phase ≡ Reading)
+    × (state .next + records * left ≤ mostNumber)
 
 abbrev μ-loop : tie.MeasureT-loop
 μ-loop job arguments buffer₀ text₀ state₀ left₀ buffer text state left = left
@@ -33,7 +35,14 @@ loop-holds c =
         used = λ e. let v = left-at phase limit e in omega arith;
       },
       still phase limit,
+      omega (arith, left-le phase limit),
     )
+
+-- the numbers of the records of one more read have 64 bits
+turn-requires : tie.Need-turn-requires Inv-loop μ-loop
+turn-requires c κs =
+    let l = c .before .before .before .loop in
+    (l .inv .0, l .inv .1, omega (arith, l .inv .4, c .before .before .loop-test .taken))
 
 loop-less : tie.Need-loop-less Inv-loop μ-loop
 loop-less c =
@@ -62,6 +71,7 @@ loop-again c =
         used = λ e. let u = before .used reading in let v = left-at (r .state .phase) (l .left - 1) e in omega arith;
       },
       still (r .state .phase) (l .left - 1),
+      omega (arith, by .numbered, l .inv .4, left-le (r .state .phase) (l .left - 1)),
     )
 
 same-length : tie.Need-same-length Inv-loop μ-loop
@@ -83,7 +93,7 @@ turns-spec =
     (λ c κs. search needs)
     (λ c κs. search needs)
     loop-holds
-    (λ c κs. let l = c .before .before .before .loop in (l .inv .0, l .inv .1))
+    turn-requires
     (λ c. search needs)
     (λ c κs. search needs)
     loop-less

@@ -1,33 +1,26 @@
--- `lines::line::put_line` meets its contract: a refusal's number has 3 digits at most.
-use Prim.Native.Nat.{ℕ, _^_, _≤_, _<_}
+-- `lines::line::put_line` meets its contract: a refusal has 3 digits at most, and a record's number 20.
+use Prim.Native.Nat.{ℕ, _^_, _<_}
 use native.Mathlib.Omega.{arith}
 use borrow.Author.Needs.{needs}
-use lib.ListN.{length}
 use mir.Syntax.{w32}
 use mir.Val.{SFits}
 use mir.Facts.{toZ-ofZ}
-use Rattle.lines.specs.Decimal.{decimalOf}
 use Rattle.lines.specs.Line.{lineOf}
 use Rattle.lines.proofs.Decimals.{decimal-le}
-use Rattle.lines.proofs.Buffers.{put-behind}
 use Rattle.lines.proofs.line.put_line.Statement.{statement}
 use Rattle.lines.proofs.line.put_line.Tie as tie
 
-abbrev number : tie.After-put-named-arg2 → ℕ
-number c = c .before .before .before .answer2 .given .0 .0
-
-digits : (c : tie.After-put-named-arg2) → length (decimalOf (number c)) ≤ 3
-digits c =
-    let b : number c < 10 ^ 3 = search needs in
-    decimal-le 3 (number c) (omega arith) b
-
-put-named-requires : tie.Need-put-named-requires
-put-named-requires c κs = omega (arith, digits c)
-
-put-byte-requires : tie.Need-put-byte-requires
-put-byte-requires c κs = omega (arith, digits (c .before .before .before .before))
+put-both-requires : tie.Need-put-both-requires
+put-both-requires c κs =
+    let told = c .before .before .before .before in
+    let n : ℕ = told .answer2 .given .0 .0 in
+    let number : ℕ = told .before .before .before .args .number in
+    let a : n < 10 ^ 3 = search needs in
+    let b : number < 10 ^ 20 = search needs in
+    omega (arith, decimal-le 3 n (omega arith) a, decimal-le 20 number (omega arith) b)
 
 returns : tie.Need-returns
+unfolding lineOf
 returns c =
     let pair = c .before .before in
     let told = pair .before .before .before .answer .given in
@@ -37,12 +30,7 @@ returns c =
 
 returns-2 : tie.Need-returns-2
 unfolding lineOf
-returns-2 c =
-    let end = c .before .before in
-    let named = end .before .before .before .before in
-    let given = named .before .before .before .before in
-    rw (given .answer2 .given .1)
-    (put-behind (named .put-named .ensures) (end .put-byte .ensures))
+returns-2 c = rw (c .before .before .before .before .before .before .before .answer2 .given .1) (c .before .before .put-both .ensures)
 
 pub put-line-spec : {M : Type 1} → statement M
 put-line-spec =
@@ -53,8 +41,8 @@ put-line-spec =
     (λ c. search needs)
     (λ c. search needs)
     (λ c. search needs)
-    put-named-requires
-    put-byte-requires
+    (λ c. search needs)
+    put-both-requires
     (λ c. search needs)
     returns
     (λ c. search needs)

@@ -2,9 +2,9 @@
 use mathlib.Core.Path.{_≡_, refl, sym, ap, _∙_}
 use mathlib.Core.Bool.{true, false}
 use mathlib.Core.List.{List}
-use Prim.Native.Nat.{ℕ, _+_, _-_, _*_, _≤_, _<_}
+use Prim.Native.Nat.{ℕ, _+_, _-_, _*_, _≤_}
 use native.Mathlib.Omega.{arith}
-use borrow.Author.Tests.{le-leb, lt-leb}
+use borrow.Author.Tests.{not-true, not-false}
 use denote.Ref.{now}
 use lib.ListN.{length}
 use Rattle.record.specs.Record.{size}
@@ -12,27 +12,29 @@ use Rattle.record.specs.Records.{recordsIn}
 use Rattle.session.specs.declared.Session.{Session}
 use Rattle.lines.specs.Line.{lineRoom}
 use Rattle.lines.proofs.Buffers.{placed, too-short}
-use Rattle.report.specs.Block.{sessionAt, blockSession, blockLines, blockFits}
-use Rattle.report.proofs.Blocks.{Progress, no-records, one-more}
+use Rattle.report.specs.Block.{sessionAt, blockSession, blockLines, mostNumber, blockFits}
+use Rattle.report.proofs.Blocks.{room-of, Progress, no-records, one-more}
 use Rattle.report.proofs.block.convert_block.Statement.{statement}
 use Rattle.report.proofs.block.convert_block.Tie as tie
 
-record State (t : Session) (input text₀ : List ℕ) (text output : List ℕ) (state : Session) (end i : ℕ) : Type 0 where
+record State (t : Session) (next : ℕ) (input text₀ : List ℕ) (text output : List ℕ) (state : Session) (end i : ℕ) : Type 0 where
   fed : i ≤ recordsIn input
-  room : lineRoom * recordsIn input ≤ length text₀
+  fits : blockFits next input text₀ ≡ true
+  room : (lineRoom * recordsIn input ≤ length text₀) × (next + recordsIn input ≤ mostNumber)
   bound : end ≤ lineRoom * i
   piece : length output ≡ size
   kept : length text ≡ length text₀
-  progress : Progress t input text₀ i state end text
+  progress : Progress t next input text₀ i state end text
 
 abbrev Inv-loop : tie.InvT-loop
-Inv-loop input text₀ count output₀ state₀ end₀ i₀ text output state end i = (count ≡ recordsIn input) × State state₀ input text₀ text output state end i
+Inv-loop next input text₀ count output₀ state₀ end₀ i₀ text output state end i =
+    (count ≡ recordsIn input) × State state₀ next input text₀ text output state end i
 
 abbrev μ-loop : tie.MeasureT-loop
-μ-loop input text₀ count output₀ state₀ end₀ i₀ text output state end i = count - i
+μ-loop next input text₀ count output₀ state₀ end₀ i₀ text output state end i = count - i
 
 abbrev start : tie.In-loop Inv-loop μ-loop → tie.Start Inv-loop μ-loop
-start c = c .before .before .before .before .before
+start c = c .before .before .before .before .before .before
 
 -- the record that is fed is there
 whole : (c : tie.In-loop Inv-loop μ-loop) → size * c .before .loop .i + size ≤ length (now (start c .args .input))
@@ -40,22 +42,25 @@ whole c = omega (arith, c .before .loop .inv .0, c .loop-test .taken)
 
 returns : tie.Need-returns Inv-loop μ-loop
 returns c =
-    let a = c .before .before .before .args in
-    let n : length (now (a .text)) < lineRoom * recordsIn (now (a .input)) = omega (arith, c .if1 .taken) in
-    let e : blockFits (now (a .input)) (now (a .text)) ≡ false = lt-leb _ _ n in
+    let a = c .before .before .before .before .args in
+    let e : blockFits (a .next) (now (a .input)) (now (a .text)) ≡ false =
+    sym (c .before .lines-fit .ensures) ∙ not-true (c .before .lines-fit .result) (c .if1 .taken) in
     record { session = rw e; lines = too-short e }
 
 loop-holds : tie.Need-loop-holds Inv-loop μ-loop
 loop-holds c =
-    let a = c .before .before .before .args in (
+    let a = c .before .before .before .before .args in
+    let e : blockFits (a .next) (now (a .input)) (now (a .text)) ≡ true =
+    sym (c .before .lines-fit .ensures) ∙ not-false (c .before .lines-fit .result) (c .if1 .left) in (
       refl,
       record {
         fed = omega arith;
-        room = omega (arith, c .if1 .left);
+        fits = e;
+        room = room-of (a .next) (recordsIn (now (a .input))) (length (now (a .text))) e;
         bound = omega arith;
         piece = refl;
         kept = refl;
-        progress = no-records (a .session) (now (a .input)) (now (a .text));
+        progress = no-records (a .session) (a .next) (now (a .input)) (now (a .text));
       },
     )
 
@@ -70,6 +75,7 @@ loop-again c =
       l .inv .0,
       record {
         fed = omega (arith, l .inv .0, turn .loop-test .taken);
+        fits = s .fits;
         room = s .room;
         bound = omega (arith, put .ensures .1, s .bound);
         piece = fed .kept .1 .1 .0 ∙ s .piece;
@@ -81,21 +87,20 @@ loop-again c =
 returns-2 : tie.Need-returns-2 Inv-loop μ-loop
 unfolding blockSession blockLines
 returns-2 c =
-    let a = c .before .before .before .before .before .args in
+    let a = c .before .before .before .before .before .before .args in
     let l = c .before .loop in
     let s = l .inv .1 in
     let n : l .i ≡ recordsIn (now (a .input)) = omega (arith, l .inv .0, s .fed, c .loop-test .left) in
-    let e : blockFits (now (a .input)) (now (a .text)) ≡ true = le-leb _ _ (s .room) in
     record {
-      session = rw e (s .progress .session ∙ ap (sessionAt (a .session) (now (a .input)) 0) n);
-      lines = placed e (rw n at (s .progress .lines));
+      session = rw (s .fits) (s .progress .session ∙ ap (sessionAt (a .session) (now (a .input)) 0) n);
+      lines = placed (s .fits) (rw n at (s .progress .lines));
     }
 
 mul-from : tie.Need-mul-from Inv-loop μ-loop
-mul-from c = omega (arith, whole c, start c .good .1 .0 .0)
+mul-from c = omega (arith, whole c, start c .good .1 .1 .0 .0)
 
 add-feed : tie.Need-add-feed Inv-loop μ-loop
-add-feed c = omega (arith, whole c, start c .good .1 .0 .0)
+add-feed c = omega (arith, whole c, start c .good .1 .1 .0 .0)
 
 sub-feed : tie.Need-sub-feed Inv-loop μ-loop
 sub-feed c = omega arith
@@ -113,12 +118,18 @@ line-at-requires : tie.Need-line-at-requires Inv-loop μ-loop
 line-at-requires c κs =
     let turn = c .before .before .before .before .before .before in
     let s = turn .before .loop .inv .1 in
-    omega (arith, turn .before .loop .inv .0, turn .loop-test .taken, s .room, s .bound, s .kept)
+    omega (arith, turn .before .loop .inv .0, turn .loop-test .taken, s .room .0, s .bound, s .kept)
+
+-- the record's number has 64 bits
+add-line-at : tie.Need-add-line-at Inv-loop μ-loop
+add-line-at c =
+    let turn = c .before .before .before .before .before .before in
+    omega (arith, turn .before .loop .inv .0, turn .loop-test .taken, turn .before .loop .inv .1 .room .1)
 
 add-i : tie.Need-add-i Inv-loop μ-loop
 add-i c =
     let turn = c .before .before .before .before .before .before .before .before .before in
-    omega (arith, whole turn, start turn .good .1 .0 .0)
+    omega (arith, whole turn, start turn .good .1 .1 .0 .0)
 
 loop-less : tie.Need-loop-less Inv-loop μ-loop
 loop-less c = omega (arith, c .before .before .before .before .before .before .before .before .before .loop-test .taken)
@@ -132,6 +143,7 @@ convert-block-spec =
     (tie.spec
     Inv-loop
     μ-loop
+    (λ c κs. tt)
     returns
     loop-holds
     mul-from
@@ -141,6 +153,7 @@ convert-block-spec =
     part-feed-end
     slice-aggregate-feed
     (λ c κs. tt)
+    add-line-at
     line-at-requires
     add-i
     loop-less

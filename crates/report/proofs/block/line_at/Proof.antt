@@ -17,7 +17,7 @@ count-le c =
     let call = at .answer-line in
     let a = start at .args in
     let told = c .before .line .given .1 in
-    omega (arith, part-le _ (a .at) (a .at + lineRoom) (now (a .text)) (start at .pre) (call .ensures) told (call .kept .1 .0))
+    omega (arith, part-le _ (a .at) (a .at + lineRoom) (now (a .text)) (start at .pre) (call .ensures) told (call .kept .1 .1 .0))
 
 add-result : tie.Need-add-result
 add-result c = omega (arith, count-le c)
@@ -27,7 +27,7 @@ returns c =
     let at = c .before .before .before .before .before in
     let call = at .answer-line in
     let told = c .before .line .given .1 in
-    (put-part _ (start at .args .at + lineRoom) (call .ensures) told (call .kept .1 .0), omega (arith, count-le c))
+    (put-part _ (start at .args .at + lineRoom) (call .ensures) told (call .kept .1 .1 .0), omega (arith, count-le c))
 
 returns-2 : tie.Need-returns-2
 returns-2 c =

@@ -20,7 +20,7 @@ returns-2 c =
     let test = c .before .before .before .before in
     let room = test .before .if1 .left in
     let a = test .before .before .before .before .args in
-    rw (end-none (a .session) (now (a .tail)) (test .if2 .taken), le-leb endRoom (length (now (a .text))) room)
+    rw (end-none (a .session) (a .next) (now (a .tail)) (test .if2 .taken), le-leb endRoom (length (now (a .text))) room)
     (rw (le-leb closingRoom (length (now (a .text))) (omega arith)) at (c .before .before .closing-line .ensures))
 
 returns-3 : tie.Need-returns-3
@@ -29,7 +29,7 @@ returns-3 c =
     let test = c .before .before .before .before .before .before .before in
     let a = test .before .before .before .before .args in
     rw (
-      end-some (a .session) (now (a .tail)) (fed .result) 16 (test .if2 .left) refl (fed .ensures .0) (fed .ensures .1 .0),
+      end-some (a .session) (a .next) (now (a .tail)) (fed .result) 16 (test .if2 .left) refl (fed .ensures .0) (fed .ensures .1 .0),
       le-leb endRoom (length (now (a .text))) (test .before .if1 .left),
     )
     (c .before .before .two-lines .ensures)

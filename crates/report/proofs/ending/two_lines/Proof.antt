@@ -25,8 +25,8 @@ returns c =
 room : (c : tie.After-line-at) → c .line-at .result + closingRoom ≤ length (c .line-at .last .0)
 room c = omega (arith, c .line-at .ensures .1, c .line-at .kept .0, c .before .before .before .pre)
 
-add-t14 : tie.Need-add-t14
-add-t14 c =
+add-t15 : tie.Need-add-t15
+add-t15 c =
     let at = c .before .before .before .before .before in
     let call = at .closing-line in
     let l = line at .line-at in
@@ -53,7 +53,7 @@ two-lines-spec =
     (λ c. search needs)
     (λ c κs. search needs)
     (λ c. search needs)
-    add-t14
+    add-t15
     (λ c. search needs)
     (λ c. search needs)
     returns

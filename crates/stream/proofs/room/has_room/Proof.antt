@@ -1,10 +1,8 @@
 -- `stream::room::has_room` meets its contract.
-use Prim.Native.Nat.{_+_, _*_, _/_, _≤_, _<_}
+use Prim.Native.Nat.{_+_, _≤_, _<_}
 use native.Mathlib.Omega.{arith}
 use borrow.Author.Needs.{needs}
-use borrow.Author.Tests.{le-leb, lt-leb}
-use Rattle.record.specs.Record.{size}
-use Rattle.lines.specs.Line.{lineRoom}
+use borrow.Author.Tests.{le-leb, lt-leb, not-true, not-false}
 use Rattle.stream.proofs.room.has_room.Statement.{statement}
 use Rattle.stream.proofs.room.has_room.Tie as tie
 
@@ -25,15 +23,15 @@ there c = omega (arith, c .if2 .left, c .before .if1 .left)
 
 returns-3 : tie.Need-returns-3
 returns-3 c =
-    let a = c .before .before .before .args in
-    let h : a .text < lineRoom * ((a .held + a .count) / size) = omega (arith, c .if3 .taken) in
-    rw (le-leb _ _ (there (c .before)), lt-leb _ _ h)
+    let lines = c .before .lines-fit in
+    rw (le-leb _ _ (there (c .before .before)), ← lines .ensures, not-true (lines .result) (c .if3 .taken))
 
 returns-4 : tie.Need-returns-4
 returns-4 c =
-    let a = c .before .before .before .args in
-    let h : lineRoom * ((a .held + a .count) / size) ≤ a .text = omega (arith, c .if3 .left) in
-    rw (le-leb _ _ (there (c .before)), le-leb _ _ h)
+    let lines = c .before .lines-fit in
+    rw (le-leb _ _ (there (c .before .before)), ← lines .ensures, not-false (lines .result) (c .if3 .left))
 
 pub has-room-spec : {M : Type 1} → statement M
-has-room-spec = tie.close (tie.spec returns returns-2 (λ c. omega (arith, there c)) returns-3 (λ c. search needs) returns-4)
+has-room-spec =
+    tie.close
+    (tie.spec returns returns-2 (λ c. omega (arith, there c)) (λ c κs. search needs) returns-3 (λ c. search needs) returns-4)

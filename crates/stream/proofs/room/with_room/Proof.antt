@@ -6,7 +6,7 @@ use Rattle.stream.proofs.room.with_room.Statement.{statement}
 use Rattle.stream.proofs.room.with_room.Tie as tie
 
 answered : (c : tie.After-has-room) → let a = c .before .before .args in
-    c .has-room .result ≡ fits (a .held) (bytesOf (a .got)) (a .buffer) (a .text)
+    c .has-room .result ≡ fits (a .state .held) (bytesOf (a .got)) (a .state .next) (a .buffer) (a .text)
 answered c = c .has-room .ensures ∙ rw (c .before .bytes-in .ensures)
 
 returns : tie.Need-returns

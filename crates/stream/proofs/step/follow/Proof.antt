@@ -1,4 +1,5 @@
 -- `stream::step::follow` meets its contract.
+use mathlib.Core.Bool.{true}
 use mathlib.Core.Path.{_≡_, sym, subst}
 use Prim.Native.Nat.{_+_, _*_, _/_, _≤_}
 use native.Mathlib.Omega.{arith}
@@ -8,6 +9,7 @@ use lib.ListN.{length, take}
 use lib.Seq.{length-take-le}
 use Rattle.record.specs.Record.{size}
 use Rattle.lines.specs.Line.{lineRoom}
+use Rattle.report.specs.Block.{linesFit}
 use Rattle.report.specs.Program.{endRoom}
 use Rattle.stream.specs.declared.state.Got.{Got}
 use Rattle.stream.specs.Inside.{Ready}
@@ -22,22 +24,18 @@ module _ (c : tie.After-got) where
   s = c .before .before .before .before .before
 
   ready : (s .args .state .held + c .got .given .0 .0 ≤ length (now (s .args .buffer)))
-      × (lineRoom * ((s .args .state .held + c .got .given .0 .0) / size) ≤ length (now (s .args .text)))
-  ready = subst (λ (g : Got). Ready g (s .args .state .held) (length (now (s .args .buffer))) (length (now (s .args .text)))) (c .got .given .1) (s .pre)
+      × (linesFit (s .args .state .next) ((s .args .state .held + c .got .given .0 .0) / size) (length (now (s .args .text))) ≡ true)
+  ready = subst (λ (g : Got). Ready g (s .args .state) (length (now (s .args .buffer))) (length (now (s .args .text)))) (c .got .given .1) (s .pre)
 
 end-ready : (c : tie.After-enum-told) → let s = c .before .before .before .before .before in
     (s .args .state .held ≤ length (now (s .args .buffer))) × (lineRoom * (s .args .state .held / size) ≤ length (now (s .args .text))) × (endRoom ≤ length (now (s .args .text)))
 end-ready c =
     let s = c .before .before .before .before .before in
-    subst (λ (g : Got). Ready g (s .args .state .held) (length (now (s .args .buffer))) (length (now (s .args .text)))) (c .enum-told .given .1) (s .pre)
+    subst (λ (g : Got). Ready g (s .args .state) (length (now (s .args .buffer))) (length (now (s .args .text)))) (c .enum-told .given .1) (s .pre)
 
 take-in-requires : tie.Need-take-in-requires
 take-in-requires c κs =
-    let g = c .before .before .before in
-    let r = ready g in
-    let a = s g .args in
-    let l : length (take (a .state .held + g .got .given .0 .0) (now (a .buffer))) ≡ a .state .held + g .got .given .0 .0 = length-take-le _ _ (r .0) in
-    (r .0, rw l (r .1))
+    ready (c .before .before .before)
 
 returns : tie.Need-returns
 returns c =
@@ -57,8 +55,8 @@ returns-2 c =
     let rest = take (a .state .held) (now (a .buffer)) in
     let room : lineRoom * (length rest / size) ≤ length (now (a .text)) = rw (length-take-le (a .state .held) (now (a .buffer)) (r .0)) (r .1) in
     rw (told .enum-told .given .1)
-    (follows-end (a .job) (a .state) (now (a .buffer)) (now (a .text)) (c .count .result) (ending .last .1 .1 .1 .0)
-    (finished (a .job) (a .state .session) rest (now (a .text)) (ending .last .1 .1 .1 .0) (ending .result) (c .count .result) room (r .2)
+    (follows-end (a .job) (a .state) (now (a .buffer)) (now (a .text)) (c .count .result) (ending .last .1 .1 .1 .1 .0)
+    (finished (a .job) (a .state .session) (a .state .next) rest (now (a .text)) (ending .last .1 .1 .1 .1 .0) (ending .result) (c .count .result) room (r .2)
     (ending .ensures) (c .count .ensures)))
 
 returns-3 : tie.Need-returns-3

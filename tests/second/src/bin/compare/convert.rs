@@ -19,9 +19,10 @@ pub fn compare(part: &mut Part, seed: u64) {
     session::convert(&records[..], &mut should).expect("memory takes all");
     let [printed, should] = [output(PROGRAM, &records), should].map(text);
     let inputs = records.chunks(LENGTH).chain([&[][..]]);
-    for (input, (printed, should)) in inputs.zip(lines(&printed).zip(lines(&should))) {
+    let both = lines(&printed).zip(lines(&should));
+    for (at, (input, (printed, should))) in (1..).zip(inputs.zip(both)) {
         let difference = || format!("{input:02x?}: printed {printed:?}, should be {should:?}");
-        part.count(number(printed), (printed != should).then(difference));
+        part.count(number(printed, at), (printed != should).then(difference));
     }
 }
 
@@ -35,8 +36,11 @@ fn lines(text: &str) -> impl Iterator<Item = &str> {
     lines.chain(std::iter::repeat(""))
 }
 
-/// The number that a line gives.
-fn number(line: &str) -> u8 {
-    let refusal = line.strip_prefix("refused ");
-    refusal.map_or(0, |number| number.parse().unwrap_or(u8::MAX))
+/// The number that the line of an input gives, which is also to say which input it is, from 1.
+fn number(line: &str, at: u64) -> u8 {
+    let Some(refusal) = line.strip_prefix("refused ") else {
+        return 0;
+    };
+    let number = refusal.strip_suffix(&format!(" at {at}"));
+    number.map_or(u8::MAX, |number| number.parse().unwrap_or(u8::MAX))
 }

@@ -30,10 +30,10 @@ type Named = (&'static str, fn(&mut Part, u64), &'static [u8]);
 
 const PARTS: [Named; 20] = [
     ("forward on numbers", numbers::forward, &[0, 1, 3, 4, 5]),
-    ("inverse on numbers", numbers::inverse, &[0, 1, 3, 6, 7]),
+    ("inverse on numbers", numbers::inverse, &PLACES),
     ("numbers handed on", numbers::handed_on, &[0]),
     ("forward on floats", floats::forward, &[0, 1, 2, 3, 4, 5]),
-    ("inverse on floats", floats::inverse, &[0, 1, 2, 3, 6, 7]),
+    ("inverse on floats", floats::inverse, &FLOAT_PLACES),
     ("floats handed on", floats::handed_on, &[0]),
     ("records converted", records::converted, &UNCAPPED),
     ("records fed", records::fed, &CAPPED),
@@ -51,13 +51,17 @@ const PARTS: [Named; 20] = [
     ("program reproject", reproject::compare, &REPROJECTED),
 ];
 
+/// What a call on a place gives, on numbers and on floats.
+const PLACES: [u8; 7] = [0, 1, 3, 6, 7, 17, 18];
+const FLOAT_PLACES: [u8; 8] = [0, 1, 2, 3, 6, 7, 17, 18];
+
 /// What a call on a record gives without a session, and in one; and what the events of a session give.
-const UNCAPPED: [u8; 10] = [0, 1, 3, 4, 5, 6, 7, 8, 9, 10];
-const CAPPED: [u8; 11] = [0, 1, 3, 4, 5, 6, 7, 8, 9, 10, 11];
-const EVENTS: [u8; 12] = [0, 1, 3, 4, 5, 6, 7, 8, 9, 10, 11, 16];
+const UNCAPPED: [u8; 12] = [0, 1, 3, 4, 5, 6, 7, 8, 9, 10, 17, 18];
+const CAPPED: [u8; 13] = [0, 1, 3, 4, 5, 6, 7, 8, 9, 10, 11, 17, 18];
+const EVENTS: [u8; 14] = [0, 1, 3, 4, 5, 6, 7, 8, 9, 10, 11, 16, 17, 18];
 
 /// What becomes of the pieces that `reproject` reads: 0 where a place is taken.
-const REPROJECTED: [u8; 9] = [0, 3, 6, 7, 8, 9, 10, A_POSITION, OTHER_KIND];
+const REPROJECTED: [u8; 11] = [0, 3, 6, 7, 8, 9, 10, 17, 18, A_POSITION, OTHER_KIND];
 
 fn main() -> ExitCode {
     second::check();
