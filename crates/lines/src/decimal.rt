@@ -34,13 +34,18 @@ pub(crate) fn put_decimal(text: &mut [u8], at: usize, n: u64) -> usize
     at + count
 }
 
-// How many digits n has. The powers of ten are held against a tenth of n, so that none outgrows 64 bits.
+// How many digits n has. The powers of ten are held against a tenth of n, so that none outgrows 64 bits. Most numbers of a map have
+// eight or nine, and the first five are not counted one by one.
 fn width(n: u64) -> usize
     ensures { λ r. ⌜ r ≡ length (decimalOf n) ⌝ }
 {
     let tenth = n / 10;
     let mut power: u64 = 1;
     let mut count: usize = 1;
+    if tenth >= 10000 {
+        power = 10000;
+        count = 5;
+    }
     while power <= tenth {
         power *= 10;
         count += 1;

@@ -1,5 +1,6 @@
 -- `lines::decimal::width` meets its contract: `power` is the power of ten with `count` digits, and n is not below it, but for
 -- the first.
+use mathlib.Core.Logic.{⊎-elim}
 use mathlib.Core.Path.{_≡_, refl, sym, ap, _∙_}
 use Prim.Native.Nat.{ℕ, zero, suc, _+_, _-_, _*_, _/_, _^_, _≤_, _<_}
 use native.Mathlib.Nat.{pow-succ'}
@@ -32,11 +33,14 @@ power-next (suc k) h =
     rw (e, f, pow-succ' 10 k) (omega arith)
 
 loop-holds : tie.Need-loop-holds Inv-loop μ-loop
-loop-holds c = record { is = refl; low = omega arith; some = omega arith; few = omega arith }
+loop-holds c =
+    ⊎-elim (λ w. record { is = rw (w .1, w .2); low = omega arith; some = omega arith; few = omega arith })
+    (λ w. record { is = rw (w .1, w .2); low = omega arith; some = omega arith; few = omega arith })
+    (c .if1 .came)
 
 loop-again : tie.Need-loop-again Inv-loop μ-loop
 loop-again c =
-    let l = c .before .loop in
+    let l = c .before .before .before .loop in
     let s = l .inv in
     record {
       is = ap (λ (p : ℕ). p * 10) (s .is) ∙ sym (power-next (l .count) (s .some));
@@ -57,7 +61,7 @@ counted (suc m) power count s h =
 returns : tie.Need-returns Inv-loop μ-loop
 returns c =
     let l = c .before .loop in
-    counted (c .before .before .args .n) (l .power) (l .count) (l .inv) (c .loop-test .left)
+    counted (c .before .before .before .args .n) (l .power) (l .count) (l .inv) (c .loop-test .left)
 
 pub width-spec : {M : Type 1} → statement M
 width-spec = tie.close (tie.spec Inv-loop μ-loop loop-holds (λ c. search needs) (λ c. search needs) (λ c. search needs) loop-again returns)
