@@ -28,7 +28,7 @@ use Rattle.record.specs.Record.{kindIn, formIn, centralIn, firstIn, secondIn}
 use Rattle.record.specs.Answer.{pairOrder, pairOf, recordOrder, convertOrder, convertOf}
 use Rattle.session.specs.declared.Session.{Session}
 use Rattle.session.specs.Session.{feedOrder, feedOf}
-use Rattle.claims.specs.Edges.{Above, Below, Tells, Edges}
+use Rattle.claims.specs.Edges.{Above, Below, TellsSide, Edges}
 
 is-above : (n : ℕ) (z : ℤ) → above n z ≡ true → Above n z
 is-above n (pos m) e = (m, refl, ltb-true n m e)
@@ -66,7 +66,7 @@ module _ (kind : ℕ) (x y : ℤ) where
       let w = widthAt (rowOf kind) y in
       (is-above n y, (is-below n y, (is-above w x, (is-below w x, tt))))
 
-  tells : {A : Type 0} (order : List Refusal) (a : A) → OfApplying Told order → Tells (unless order a) kind x y
+  tells : {A : Type 0} (order : List Refusal) (a : A) → OfApplying Told order → TellsSide (unless order a) kind x y
   tells order a h =
       record {
         north = of-applying Told order a h 6;
@@ -75,12 +75,12 @@ module _ (kind : ℕ) (x y : ℤ) where
         west = of-applying Told order a h 17;
       }
 
-numbers : (kind : ℕ) (c x y : ℤ) → Tells (inverseOf kind c x y) kind x y
+numbers : (kind : ℕ) (c x y : ℤ) → TellsSide (inverseOf kind c x y) kind x y
 unfolding inverseOf
 numbers kind c x y =
     tells kind x y (inverseOrder kind c x y) (positionOf (rowOf kind) c x y) (λ _. tt, (λ _. tt, row-told kind x y))
 
-floats : (kind : ℕ) (c x y : Float) → Tells (inverseDegrees kind c x y) kind (units x) (units y)
+floats : (kind : ℕ) (c x y : Float) → TellsSide (inverseDegrees kind c x y) kind (units x) (units y)
 unfolding inverseDegrees
 floats kind c x y =
     tells kind (units x) (units y) (inverseDegreesOrder kind c x y)
@@ -99,12 +99,12 @@ module _ (s : List ℕ) where
       go true = (λ _. tt, (λ _. tt, (λ _. tt, (λ _. tt, tt))))
       go false = (λ _. tt, (λ _. tt, row-told (kindIn s) (firstIn s) (secondIn s)))
 
-  convert-record : (output : ℕ) → Tells (convertOf s output) (kindIn s) (firstIn s) (secondIn s)
+  convert-record : (output : ℕ) → TellsSide (convertOf s output) (kindIn s) (firstIn s) (secondIn s)
   unfolding convertOf
   convert-record output =
       tells (kindIn s) (firstIn s) (secondIn s) (convertOrder s output) (pairOf s) (λ _. tt, record-told)
 
-  feed : (t : Session) (output : ℕ) → Tells (feedOf t s output) (kindIn s) (firstIn s) (secondIn s)
+  feed : (t : Session) (output : ℕ) → TellsSide (feedOf t s output) (kindIn s) (firstIn s) (secondIn s)
   unfolding feedOf
   feed t output =
       tells (kindIn s) (firstIn s) (secondIn s) (feedOrder t s output) (pairOf s) (λ _. tt, (λ _. tt, record-told))

@@ -24,7 +24,7 @@ use Rattle.lines.proofs.Decimals.{is-decimal}
 use Rattle.report.specs.Block.{answerAt, sessionAt, linesOf, blockSession, blockLines}
 use Rattle.report.specs.Program.{endOf, printedFrom, printedOf}
 use Rattle.report.proofs.Blocks.{sessions-compose, lines-compose}
-use Rattle.report.proofs.Streams.{numbered, reads-do-not-matter, tail-refused, session-of-history}
+use Rattle.report.proofs.Streams.{numbered, reads-do-not-matter, tail-refused, tail-numbered, session-of-history}
 use Rattle.stream.proofs.Runs.{runs-write, runs-end}
 use Rattle.claims.specs.RecordExample.{RecordExample, input}
 use Rattle.claims.specs.Printing.{west, Printing}
@@ -64,6 +64,8 @@ unfolding printedOf printedFrom blockLines blockSession tailOf linesOf sessionAt
 printing =
     record {
       decimal = is-decimal;
+      pair-line = λ number x y. refl;
+      refusal-line = λ number n. refl;
       sessions = sessions-compose;
       lines = lines-compose;
       numbers = numbered;
@@ -71,6 +73,7 @@ printing =
       runs = runs-write;
       runs-end = runs-end;
       tail = tail-refused;
+      tail-number = tail-numbered;
       counts = session-of-history;
       document = rw (moved-in 0 refl);
       empty = refl;

@@ -30,7 +30,7 @@ abbrev pub Below : ℕ → ℤ → Type 0
 Below n z = (m : ℕ) × (z ≡ negℤ (pos m)) × (n < m)
 
 -- what the number of a refusal tells of the place (x, y) of a kind
-pub record Tells {A : Type 0} (answer : Outcome A) (kind : ℕ) (x y : ℤ) : Type 0 where
+pub record TellsSide {A : Type 0} (answer : Outcome A) (kind : ℕ) (x y : ℤ) : Type 0 where
   pub north : answer ≡ refused 6 → Above (height (rowOf kind) H) y
   pub south : answer ≡ refused 18 → Below (height (rowOf kind) H) y
   pub east : answer ≡ refused 7 → Above (widthAt (rowOf kind) y) x
@@ -44,10 +44,10 @@ pub record Edges : Type 0 where
   pub either-pole : (r : Row) (y : ℤ) → (pastNorth r y .applies || pastSouth r y .applies) ≡ ltb (height r H) (natAbs y)
   pub either-side : (w : ℕ) (x : ℤ) → (pastEast w x .applies || pastWest w x .applies) ≡ ltb w (natAbs x)
   -- so each number tells the side: of numbers, of those that floats stand for, and of those that a record holds
-  pub numbers : (kind : ℕ) (c x y : ℤ) → Tells (inverseOf kind c x y) kind x y
-  pub floats : (kind : ℕ) (c x y : Float) → Tells (inverseDegrees kind c x y) kind (units x) (units y)
-  pub convert-record : (s : List ℕ) (output : ℕ) → Tells (convertOf s output) (kindIn s) (firstIn s) (secondIn s)
-  pub feed : (t : Session) (s : List ℕ) (output : ℕ) → Tells (feedOf t s output) (kindIn s) (firstIn s) (secondIn s)
+  pub numbers : (kind : ℕ) (c x y : ℤ) → TellsSide (inverseOf kind c x y) kind x y
+  pub floats : (kind : ℕ) (c x y : Float) → TellsSide (inverseDegrees kind c x y) kind (units x) (units y)
+  pub convert-record : (s : List ℕ) (output : ℕ) → TellsSide (convertOf s output) (kindIn s) (firstIn s) (secondIn s)
+  pub feed : (t : Session) (s : List ℕ) (output : ℕ) → TellsSide (feedOf t s output) (kindIn s) (firstIn s) (secondIn s)
   -- the last place on each edge of kind 1 at the Equator and at the poles, and of kind 11 at its pointed pole, and one unit past it
   pub on-the-edges : (inverseOf 1 (pos 0) (pos 314159265) (pos 0) ≡ given (pos 64800000, pos 0))
       × (inverseOf 1 (pos 0) (negℤ (pos 314159265)) (pos 0) ≡ given (negℤ (pos 64800000), pos 0))

@@ -3,10 +3,13 @@
 use mathlib.Core.List.{List, [], _∷_, _++_}
 use mathlib.Core.Path.{_≡_}
 use Prim.Native.Nat.{ℕ}
+use lib.IntN.{ℤ}
 use lib.ListN.{take}
-use Rattle.lines.specs.Decimal.{DecimalText}
+use Rattle.parallel.specs.Refusal.{refused, given}
+use Rattle.lines.specs.Decimal.{decimalOf, numberText, DecimalText}
+use Rattle.lines.specs.Line.{lineOf}
 use Rattle.report.specs.Block.{SessionsCompose, LinesCompose}
-use Rattle.report.specs.Program.{printedOf, Numbered, ReadsDoNotMatter, TailRefused, SessionOfHistory}
+use Rattle.report.specs.Program.{printedOf, Numbered, TailNumbered, ReadsDoNotMatter, TailRefused, SessionOfHistory}
 use Rattle.jobs.specs.declared.Job.{Job}
 use Rattle.stream.specs.Run.{RunsWrite, RunsEnd}
 use Rattle.claims.specs.RecordExample.{input}
@@ -21,6 +24,13 @@ movedOne = 109 ∷ 111 ∷ 118 ∷ 101 ∷ 100 ∷ 32 ∷ 49 ∷ 32 ∷ 114 ∷ 
 -- "moved 0 refused 0"
 abbrev pub movedNone : List ℕ
 movedNone = 109 ∷ 111 ∷ 118 ∷ 101 ∷ 100 ∷ 32 ∷ 48 ∷ 32 ∷ 114 ∷ 101 ∷ 102 ∷ 117 ∷ 115 ∷ 101 ∷ 100 ∷ 32 ∷ 48 ∷ 10 ∷ []
+
+-- "refused " and " at "
+abbrev pub refusedText : List ℕ
+refusedText = 114 ∷ 101 ∷ 102 ∷ 117 ∷ 115 ∷ 101 ∷ 100 ∷ 32 ∷ []
+
+abbrev pub atText : List ℕ
+atText = 32 ∷ 97 ∷ 116 ∷ 32 ∷ []
 
 -- a place of kind 1, one unit west of the Equator's end: x is -314159266
 abbrev pub west : List ℕ
@@ -40,6 +50,10 @@ refusedTail = 114 ∷ 101 ∷ 102 ∷ 117 ∷ 115 ∷ 101 ∷ 100 ∷ 32 ∷ 56 
 pub record Printing : Type 0 where
   -- numbers as text: digits that read back as the number, with no zero in front
   pub decimal : DecimalText
+  -- the line of two numbers, and of a refusal and the number of its record, whatever that is
+  pub pair-line : (number : ℕ) (x y : ℤ) → lineOf number (given (x, y)) ≡ numberText x ++ (32 ∷ (numberText y ++ (10 ∷ [])))
+  pub refusal-line : (number n : ℕ) →
+      lineOf number (refused n) ≡ refusedText ++ (decimalOf n ++ (atText ++ (decimalOf number ++ (10 ∷ []))))
   -- blocks one after the other are one stream
   pub sessions : SessionsCompose
   pub lines : LinesCompose
@@ -54,6 +68,7 @@ pub record Printing : Type 0 where
   pub runs-end : (job : Job) → RunsEnd job
   -- a tail shorter than 16 bytes prints "refused 8" with the next number, and no count changes
   pub tail : TailRefused
+  pub tail-number : TailNumbered
   -- the counts of the last line are those of the history of all whole records
   pub counts : SessionOfHistory
   -- document 01's record, and empty input

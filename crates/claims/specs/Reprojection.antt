@@ -69,7 +69,7 @@ pub record Reprojection : Type 0 where
   pub kept : (s : List ℕ) → OtherPlace s (reprojected s)
   -- all other records stay: other kinds, positions, another mark or form, and what is not of 16 bytes
   pub others : (s : List ℕ) → (StoredPlace s → ⊥) → reprojected s ≡ s
-  -- and so do the places that the old row refuses
+  -- and so do the places that the old row refuses: by 3, by 6 or 18, by 7 or 17
   pub by-3 : (s : List ℕ) → 64800000 < natAbs (centralIn s) → reprojected s ≡ s
   pub by-6 : (s : List ℕ) → 148825098 < natAbs (secondIn s) → reprojected s ≡ s
   pub by-7 : (s : List ℕ) → widthAt (oldRow s) (secondIn s) < natAbs (firstIn s) → reprojected s ≡ s

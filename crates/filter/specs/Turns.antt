@@ -1,10 +1,12 @@
 -- The turns of the loop, and how many there may be.
 use mathlib.Core.Path.{_≡_}
 use mathlib.Core.List.{List}
-use Prim.Native.Nat.{ℕ, _+_, _*_, _≤_, _<_}
+use Prim.Native.Nat.{ℕ, _+_, _-_, _*_, _/_, _≤_, _<_}
 use lib.ListN.{length}
 use Rattle.record.specs.Record.{size}
 use Rattle.lines.specs.Line.{lineRoom}
+use Rattle.report.specs.Block.{mostNumber}
+use Rattle.report.specs.Program.{firstNumber}
 use Rattle.jobs.specs.declared.Job.{Job}
 use Rattle.stream.specs.declared.state.Phase.{Phase}
 use Rattle.stream.specs.declared.state.Phase.the-variants.{Reading, Ended, NotStarted, NotRead, NotWritten}
@@ -33,12 +35,11 @@ pub record TurnsBy (job : Job) (state : State) (buffer : List ℕ) (r : Turned) 
   pub few : r .state .held < size
   pub numbered : r .state .next ≤ state .next + records
 
--- the turns that a run has: so many that the numbers of the records that they read have 64 bits
+-- the turns that a run has: as many as can read records whose numbers, and the one behind them, have 64 bits
 abbrev pub limit : ℕ
-limit = 4503599627370495
+limit = (mostNumber - firstNumber) / records
 
 -- those that are left in a phase
-
 abbrev pub leftIn : Phase → ℕ → ℕ
 leftIn Reading left = left
 leftIn Ended left = 0

@@ -21,16 +21,16 @@ use Rattle.jobs.specs.declared.Job.{Job}
 use Rattle.jobs.specs.declared.Job.the-variants.{Convert, Reproject}
 use Rattle.jobs.specs.Job.{blockOf, sessionOf, endingOf, resultOf, workFits, endRoomOf}
 
-module _ (t : Session) (next : ℕ) (s more : List ℕ) where
-  pub block-more : (job : Job) →
+module _ (t : Session) (s more : List ℕ) where
+  pub block-more : (next : ℕ) (job : Job) →
       blockOf job t next (s ++ more) ≡ blockOf job t next s ++ blockOf job (sessionOf job t s) (next + recordsIn s) (tailOf s ++ more)
   unfolding blockOf sessionOf
-  block-more Convert = block-lines t next s more
-  block-more Reproject = whole-more s more
+  block-more next Convert = block-lines t s more next
+  block-more next Reproject = whole-more s more
 
   pub session-more : (job : Job) → sessionOf job t (s ++ more) ≡ sessionOf job (sessionOf job t s) (tailOf s ++ more)
   unfolding sessionOf
-  session-more Convert = block-session t next s more
+  session-more Convert = block-session t s more
   session-more Reproject = refl
 
 -- of nothing, a job makes nothing

@@ -17,12 +17,12 @@ use Rattle.session.specs.Session.{opened, feedOf, sessionAfter}
 use Rattle.session.specs.History.{sessionOf}
 use Rattle.lines.specs.Line.{lineOf, closingOf}
 use Rattle.report.specs.Block.{answerAt, sessionAt, linesOf, blockSession, blockLines}
-use Rattle.report.specs.Program.{endOf, printedFrom, firstNumber, printedOf, Numbered, printedBy, joined, ReadsDoNotMatter, TailRefused, callsOf, SessionOfHistory}
+use Rattle.report.specs.Program.{endOf, printedFrom, firstNumber, printedOf, Numbered, TailNumbered, printedBy, joined, ReadsDoNotMatter, TailRefused, callsOf, SessionOfHistory}
 use Rattle.report.proofs.Blocks.{sessions-compose, lines-compose, same-session, same-lines}
 
 -- ---- bytes that come behind others
 
-module _ (t : Session) (next : ℕ) (s more : List ℕ) where
+module _ (t : Session) (s more : List ℕ) where
   abbrev k : ℕ
   k = recordsIn s
 
@@ -45,9 +45,10 @@ module _ (t : Session) (next : ℕ) (s more : List ℕ) where
       rw (records-more s more, sessions-compose t (s ++ more) 0 k n, session-first)
       (same-session (blockSession t s) (s ++ more) (tailOf s ++ more) (0 + k) 0 n last-same)
 
-  pub block-lines : blockLines t next (s ++ more) ≡ blockLines t next s ++ blockLines (blockSession t s) (next + k) (tailOf s ++ more)
+  pub block-lines : (next : ℕ) →
+      blockLines t next (s ++ more) ≡ blockLines t next s ++ blockLines (blockSession t s) (next + k) (tailOf s ++ more)
   unfolding blockLines
-  block-lines =
+  block-lines next =
       rw (
         records-more s more,
         lines-compose t next (s ++ more) 0 k n,
@@ -58,10 +59,11 @@ module _ (t : Session) (next : ℕ) (s more : List ℕ) where
       (same-lines (blockSession t s) (s ++ more) (tailOf s ++ more) (0 + k) 0 next (next + k) (omega arith) n last-same))
 
   -- the lines of the first whole records, and then what is printed of the rest
-  printed-split : printedFrom t next (s ++ more) ≡ blockLines t next s ++ printedFrom (blockSession t s) (next + k) (tailOf s ++ more)
+  printed-split : (next : ℕ) →
+      printedFrom t next (s ++ more) ≡ blockLines t next s ++ printedFrom (blockSession t s) (next + k) (tailOf s ++ more)
   unfolding printedFrom
-  printed-split =
-      rw (block-lines, block-session, tail-more s more, records-more s more, ← add-assoc next k n)
+  printed-split next =
+      rw (block-lines next, block-session, tail-more s more, records-more s more, ← add-assoc next k n)
       (append-assoc (blockLines t next s) (blockLines (blockSession t s) (next + k) (tailOf s ++ more)) _)
 
 -- fewer bytes than a record are a tail
@@ -76,7 +78,7 @@ reads-from [] t next rest h = rw (append-nil rest) (sym (printed-tail t next res
 reads-from (piece ∷ pieces) t next rest h =
     let s : List ℕ = rest ++ piece in
     let l = tail-length s in
-    rw (sym (append-assoc rest piece (joined pieces)), printed-split t next s (joined pieces))
+    rw (sym (append-assoc rest piece (joined pieces)), printed-split t s (joined pieces) next)
     (ap (λ (x : List ℕ). blockLines t next s ++ x) (reads-from pieces (blockSession t s) (next + recordsIn s) (tailOf s) (omega arith)))
 
 pub reads-do-not-matter : ReadsDoNotMatter
@@ -119,6 +121,13 @@ tail-refused t next [] h k = absurd (omega arith)
 tail-refused t next (b ∷ bs) h k =
     let e : length (b ∷ bs) ≡ size → ⊥ = λ e. omega arith in
     simp (ne-eqb _ _ e)
+
+pub tail-numbered : TailNumbered
+unfolding printedOf printedFrom
+tail-numbered s h =
+    let l = tail-length s in
+    ap (λ (l : List ℕ). blockLines opened firstNumber s ++ l)
+    (tail-refused (blockSession opened s) (firstNumber + recordsIn s) (tailOf s) h (omega arith))
 
 history-from : (s : List ℕ) (count : ℕ) → sessionAt opened s 0 count ≡ sessionOf (callsOf s count)
 unfolding sessionAt answerAt sessionOf callsOf

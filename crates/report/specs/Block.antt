@@ -15,17 +15,17 @@ use Rattle.lines.specs.Buffer.{Placed}
 use Rattle.lines.specs.Line.{lineOf, lineRoom}
 use Rattle.report.specs.declared.block.Block.{Block}
 
--- what a session answers to record number i; its output piece is as long as a record
+-- what a session answers to record i of s, the first being record 0; its output piece is as long as a record
 unfoldable pub answerAt : Session → List ℕ → ℕ → Outcome (ℤ × ℤ)
 answerAt t s i = feedOf t (recordAt s i) size
 
--- the session t after `count` records of s, from record number `first` on
+-- the session t after `count` records of s, from record `first` on
 unfoldable pub sessionAt : Session → List ℕ → ℕ → ℕ → Session
 sessionAt t s first zero = t
 sessionAt t s first (suc count) =
     let u = sessionAt t s first count in sessionAfter u (answerAt u s (first + count))
 
--- the lines of those records, where the first record of s has the number `next` in its stream
+-- the lines of those records, where record i of s has the number next + i in its stream
 unfoldable pub linesOf : Session → ℕ → List ℕ → ℕ → ℕ → List ℕ
 linesOf t next s first zero = []
 linesOf t next s first (suc count) =

@@ -33,13 +33,19 @@ firstNumber = 1
 unfoldable pub printedOf : List ℕ → List ℕ
 printedOf s = printedFrom opened firstNumber s
 
--- the line of record i stands behind those of the i records before it, and has the number i + 1
+-- the line of record i, the first being record 0, stands behind those of the i records before it, and has the number 1 + i
 pub record LineAt (s : List ℕ) (i : ℕ) : Type 0 where
   pub behind : List ℕ
-  pub stands : printedOf s ≡ linesOf opened firstNumber s 0 i ++ (lineOf (firstNumber + i) (answerAt (sessionAt opened s 0 i) s i) ++ behind)
+  pub stands : printedOf s ≡ linesOf opened firstNumber s 0 i ++ (lineOf (1 + i) (answerAt (sessionAt opened s 0 i) s i) ++ behind)
 
 abbrev pub Numbered : Type 0
 Numbered = (s : List ℕ) (i : ℕ) → i < recordsIn s → LineAt s i
+
+-- a tail has its line behind those of all whole records, with the next number, and before the closing line
+abbrev pub TailNumbered : Type 0
+TailNumbered =
+    (s : List ℕ) → 0 < length (tailOf s) →
+    printedOf s ≡ blockLines opened firstNumber s ++ (lineOf (1 + recordsIn s) (refused 8) ++ closingOf (blockSession opened s))
 
 -- what is printed of an input that comes in pieces, each taken in behind the bytes that the one before left over
 unfoldable pub printedBy : Session → ℕ → List ℕ → List (List ℕ) → List ℕ

@@ -38,10 +38,10 @@ kept-read : (job : Job) (s : Standing) (input written : List ℕ) (read : Read) 
 unfolding afterRead offered
 kept-read job s input written (came b) e k =
     record {
-      session = rw (k .session, k .rest) (sym (session-more opened firstNumber input b job));
+      session = rw (k .session, k .rest) (sym (session-more opened input b job));
       next = rw (k .next, k .rest, records-more input b) (add-assoc firstNumber (recordsIn input) (recordsIn (tailOf input ++ b)));
       rest = rw (k .rest) (sym (tail-more input b));
-      wrote = rw (k .wrote, k .session, k .next, k .rest) (sym (block-more opened firstNumber input b job));
+      wrote = rw (k .wrote, k .session, k .next, k .rest) (sym (block-more opened input b firstNumber job));
     }
 kept-read job s input written ended e k = rw (append-nil input, k .wrote, k .session, k .next, k .rest) (result-is job input)
 kept-read job s input written interrupted e k =
