@@ -47,13 +47,17 @@ module _ (s t : List ℕ) (h : SameHead s t) where
   form-same : formIn t ≡ formIn s
   form-same = head-byte 3 (omega arith)
 
-  -- positions, or places, whose answers stand in such a relation are records whose own answers do
-  pub judged-alike : (P : Outcome (ℤ × ℤ) → Outcome (ℤ × ℤ) → Type 0) → Stays P →
-      (formIn s ≡ position →
-      P (forwardOf (kindIn s) (centralIn s) (firstIn s) (secondIn s)) (forwardOf (kindIn s) (centralIn t) (firstIn t) (secondIn t))) →
-      (formIn s ≡ place →
-      P (inverseOf (kindIn s) (centralIn s) (firstIn s) (secondIn s)) (inverseOf (kindIn s) (centralIn t) (firstIn t) (secondIn t))) →
-      P (judgedOf s) (judgedOf t)
+  -- positions, or places, whose answers stand in a relation
+  abbrev pub Positions : (Outcome (ℤ × ℤ) → Outcome (ℤ × ℤ) → Type 0) → Type 0
+  Positions P = formIn s ≡ position →
+      P (forwardOf (kindIn s) (centralIn s) (firstIn s) (secondIn s)) (forwardOf (kindIn s) (centralIn t) (firstIn t) (secondIn t))
+
+  abbrev pub Places : (Outcome (ℤ × ℤ) → Outcome (ℤ × ℤ) → Type 0) → Type 0
+  Places P = formIn s ≡ place →
+      P (inverseOf (kindIn s) (centralIn s) (firstIn s) (secondIn s)) (inverseOf (kindIn s) (centralIn t) (firstIn t) (secondIn t))
+
+  -- are records whose own answers do
+  judged-alike : (P : Outcome (ℤ × ℤ) → Outcome (ℤ × ℤ) → Type 0) → Stays P → Positions P → Places P → P (judgedOf s) (judgedOf t)
   judged-alike P stays there back = go (hasMark s) (eqb (formIn s) position) (eqb (formIn s) place) refl refl refl
     where
       go : (m p q : Bool) → hasMark s ≡ m → eqb (formIn s) position ≡ p → eqb (formIn s) place ≡ q → P (judgedOf s) (judgedOf t)
@@ -109,6 +113,12 @@ in-32 z h = fits w32 z (omega arith)
 -- ---- a moved record fed on
 
 module _ (h : RecordCall) (a : Answers h) where
+  -- and whose answers by the call do
+  pub fed-alike : (P : Outcome (ℤ × ℤ) → Outcome (ℤ × ℤ) → Type 0) → Stays P → (t : h .State) (s s' : List ℕ) (output : ℕ) →
+      (k : SameHead s s') → Positions s s' k P → Places s s' k P → P (h .answer t s output) (h .answer t s' output)
+  fed-alike P stays t s s' output k there back =
+      alike h a P stays t s s' output (k .length-same) (judged-alike s s' k P stays there back)
+
   fed-again : (bytes : List ℕ) (P : ℤ × ℤ → Type 0) (t : h .State) (output : ℕ) → length bytes ≡ size → (q : ℤ × ℤ) →
       judgedOf bytes ≡ given q → P q → FedAgain h bytes P t output
   fed-again bytes P t output l q e k = go (eqb output size) (h .isFull t) refl refl
@@ -235,19 +245,17 @@ module _ (h : RecordCall) (a : Answers h) where
     turning-x : (t : h .State) (s s' : List ℕ) (output : ℕ) → formIn s ≢ place → TurnedEast s s' →
         Alike (TurnedX numbers) (h .answer t s output) (h .answer t s' output)
     turning-x t s s' output n k =
-        alike h a (Alike (TurnedX numbers)) (both-refused (TurnedX numbers)) t s s' output (k .head .length-same)
-        (judged-alike s s' (k .head) (Alike (TurnedX numbers)) (both-refused (TurnedX numbers))
+        fed-alike (Alike (TurnedX numbers)) (both-refused (TurnedX numbers)) t s s' output (k .head)
         (λ _. rw (k .latitude)
         (d .turning-x (kindIn s) (centralIn s) (centralIn s') (firstIn s) (firstIn s') (secondIn s) (k .central) (k .longitude)))
-        (λ e. absurd (n e)))
+        (λ e. absurd (n e))
 
     turning-y : (t : h .State) (s s' : List ℕ) (output : ℕ) → formIn s ≢ place → TurnedNorth s s' →
         Alike (TurnedY numbers) (h .answer t s output) (h .answer t s' output)
     turning-y t s s' output n k =
-        alike h a (Alike (TurnedY numbers)) (both-refused (TurnedY numbers)) t s s' output (k .head .length-same)
-        (judged-alike s s' (k .head) (Alike (TurnedY numbers)) (both-refused (TurnedY numbers))
+        fed-alike (Alike (TurnedY numbers)) (both-refused (TurnedY numbers)) t s s' output (k .head)
         (λ _. rw (k .central, k .longitude) (d .turning-y (kindIn s) (centralIn s) (firstIn s) (secondIn s) (secondIn s') (k .latitude)))
-        (λ e. absurd (n e)))
+        (λ e. absurd (n e))
 
     pub records-by-numbers : RecordLaws h
     records-by-numbers =

@@ -29,8 +29,8 @@ use Rattle.claims.specs.Demand3.{numbers, floats, TurnedFloat}
 use Rattle.claims.specs.RecordLaws.{RecordCall, converting, feeding, TurnedEast, TurnedNorth}
 use Rattle.claims.specs.TurnedPlaces.{otherSide, otherPole, AlikeBy, SameLatitude, TurnedLongitude, TurnedLatitude, PlacesTurn, TurnedXAlone, RecordPlacesTurn, TurnedPlaces}
 use Rattle.claims.proofs.Floats.{turned-read, turned-finite, turned-outside, floats-by-numbers}
-use Rattle.claims.proofs.Pieces.{Answers, Stays, alike, converting-answers, feeding-answers}
-use Rattle.claims.proofs.Records.{judged-alike}
+use Rattle.claims.proofs.Pieces.{Answers, Stays, converting-answers, feeding-answers}
+use Rattle.claims.proofs.Records.{fed-alike}
 use Rattle.claims.proofs.Sided.{exchanged-other, both-refused, both-given, after, turned-sides}
 
 -- a row's order, with x turned or y
@@ -169,31 +169,24 @@ module _ (h : RecordCall) (a : Answers h) where
   record-x : (t : h .State) (s s' : List ℕ) (output : ℕ) → formIn s ≢ position → TurnedXAlone s s' →
       AlikeBy otherSide (SameLatitude numbers) (h .answer t s output) (h .answer t s' output)
   record-x t s s' output n k =
-      let P = AlikeBy otherSide (SameLatitude numbers) in
-      let stays = stays-x (SameLatitude numbers) in
-      alike h a P stays t s s' output (k .head .length-same)
-      (judged-alike s s' (k .head) P stays (λ e. absurd (n e))
-      (λ _. rw (k .central, k .y) (of-numbers .x (kindIn s) (centralIn s) (firstIn s) (firstIn s') (secondIn s) (k .x))))
+      fed-alike h a (AlikeBy otherSide (SameLatitude numbers)) (stays-x (SameLatitude numbers)) t s s' output (k .head) (λ e. absurd (n e))
+      (λ _. rw (k .central, k .y) (of-numbers .x (kindIn s) (centralIn s) (firstIn s) (firstIn s') (secondIn s) (k .x)))
 
   record-central : (t : h .State) (s s' : List ℕ) (output : ℕ) → formIn s ≢ position → TurnedEast s s' →
       AlikeBy otherSide (TurnedLongitude numbers) (h .answer t s output) (h .answer t s' output)
   record-central t s s' output n k =
-      let P = AlikeBy otherSide (TurnedLongitude numbers) in
-      let stays = stays-x (TurnedLongitude numbers) in
-      alike h a P stays t s s' output (k .head .length-same)
-      (judged-alike s s' (k .head) P stays (λ e. absurd (n e))
+      fed-alike h a (AlikeBy otherSide (TurnedLongitude numbers)) (stays-x (TurnedLongitude numbers)) t s s' output (k .head)
+      (λ e. absurd (n e))
       (λ _. rw (k .latitude)
-      (of-numbers .x-and-central (kindIn s) (centralIn s) (centralIn s') (firstIn s) (firstIn s') (secondIn s) (k .central) (k .longitude))))
+      (of-numbers .x-and-central (kindIn s) (centralIn s) (centralIn s') (firstIn s) (firstIn s') (secondIn s) (k .central) (k .longitude)))
 
   record-y : (t : h .State) (s s' : List ℕ) (output : ℕ) → formIn s ≢ position → TurnedNorth s s' →
       AlikeBy otherPole (TurnedLatitude numbers) (h .answer t s output) (h .answer t s' output)
   record-y t s s' output n k =
-      let P = AlikeBy otherPole (TurnedLatitude numbers) in
-      let stays = stays-y (TurnedLatitude numbers) in
-      alike h a P stays t s s' output (k .head .length-same)
-      (judged-alike s s' (k .head) P stays (λ e. absurd (n e))
+      fed-alike h a (AlikeBy otherPole (TurnedLatitude numbers)) (stays-y (TurnedLatitude numbers)) t s s' output (k .head)
+      (λ e. absurd (n e))
       (λ _. rw (k .central, k .longitude)
-      (of-numbers .y (kindIn s) (centralIn s) (firstIn s) (secondIn s) (secondIn s') (k .latitude))))
+      (of-numbers .y (kindIn s) (centralIn s) (firstIn s) (secondIn s) (secondIn s') (k .latitude)))
 
   of-records : RecordPlacesTurn h
   of-records = record { x = record-x; x-and-central = record-central; y = record-y }

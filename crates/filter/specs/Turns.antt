@@ -1,7 +1,7 @@
 -- The turns of the loop, and how many there may be.
 use mathlib.Core.Path.{_≡_}
 use mathlib.Core.List.{List}
-use Prim.Native.Nat.{ℕ, _+_, _-_, _*_, _/_, _≤_, _<_}
+use Prim.Native.Nat.{ℕ, _+_, _*_, _≤_, _<_}
 use lib.ListN.{length}
 use Rattle.record.specs.Record.{size}
 use Rattle.lines.specs.Line.{lineRoom}
@@ -35,11 +35,7 @@ pub record TurnsBy (job : Job) (state : State) (buffer : List ℕ) (r : Turned) 
   pub few : r .state .held < size
   pub numbered : r .state .next ≤ state .next + records
 
--- the turns that a run has: as many as can read records whose numbers, and the one behind them, have 64 bits
-abbrev pub limit : ℕ
-limit = (mostNumber - firstNumber) / records
-
--- those that are left in a phase
+-- the turns that are left in a phase
 abbrev pub leftIn : Phase → ℕ → ℕ
 leftIn Reading left = left
 leftIn Ended left = 0
@@ -47,8 +43,9 @@ leftIn NotStarted left = 0
 leftIn NotRead left = 0
 leftIn NotWritten left = 0
 
--- a run came to stand here by some turns; one that is still reading has used up all but those that are left
+-- a run came to stand here by some turns; one that is still reading has used up all but those that are left, and with one more it
+-- could come to a number of more than 64 bits
 pub record Reached (job : Job) (arguments : ℕ) (s : Standing) (left : ℕ) : Type 0 where
   pub turns : List Turn
   pub stands : s ≡ standingOf job arguments turns
-  pub used : s .phase ≡ Reading → left + length turns ≡ limit
+  pub used : s .phase ≡ Reading → mostNumber < firstNumber + records * (left + length turns + 1)

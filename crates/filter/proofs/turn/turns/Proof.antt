@@ -1,18 +1,23 @@
 -- `filter::turn::turns` meets its contract: the run came to stand where it stands by the turns that it took.
 use mathlib.Core.Path.{_≡_, sym, _∙_}
 use mathlib.Core.List.{[], _∷_}
-use Prim.Native.Nat.{_+_, _-_, _*_, _≤_, _<_}
+use Prim.Native.Nat.{ℕ, _+_, _-_, _*_, _/_, _≤_, _<_}
 use native.Mathlib.Omega.{arith}
 use borrow.Author.Needs.{needs}
 use Rattle.record.specs.Record.{size}
 use Rattle.report.specs.Block.{mostNumber}
+use Rattle.report.specs.Program.{firstNumber}
 use Rattle.stream.specs.declared.state.Phase.the-variants.{Reading}
 use Rattle.stream.specs.Run.{Turn, standingOf}
 use Rattle.stream.specs.Step.{gotOf, readIn, standing}
-use Rattle.filter.specs.Turns.{records, Room, Reached, limit}
+use Rattle.filter.specs.Turns.{records, Room, Reached}
 use Rattle.filter.proofs.Turns.{falls, still, left-at, left-le, goes-on}
 use Rattle.filter.proofs.turn.turns.Statement.{statement}
 use Rattle.filter.proofs.turn.turns.Tie as tie
+
+-- the turns of a run: as many as can read records whose numbers, and the one behind them, have 64 bits
+abbrev limit : ℕ
+limit = (mostNumber - firstNumber) / records
 
 abbrev Inv-loop : tie.InvT-loop
 Inv-loop job arguments buffer₀ text₀ state₀ left₀ buffer text state left =
