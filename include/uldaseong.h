@@ -22,11 +22,13 @@
  *   16  the two numbers of a note add to more than 1,000,000,000
  *   17  x less than minus the half-width of the row found at y: west of it
  *   18  y less than minus the pole's y: south of it
+ *   23  input to be salvaged of more than 65,536 bytes
+ *   24  a piece for what is salvaged has another length than its input asks for
  *
  * The first that applies is given, in the order 8, 11, 9, 10, 1, 2, 3, then 4 and 5 for a position, or 6, 18, 7 and 17 for a
  * place; to read a text in the order 12, 13, 14, 15, 5, 4, and to write one in the order 12, 5, 4; to restore a note in the order
- * 8, 9, 16, and to save one in the order 8, 16. On a refusal nothing lent has changed, but that feeding counts it (8 and 11 are
- * not counted).
+ * 8, 9, 16, and to save one in the order 8, 16; to salvage in the order 23, 24. On a refusal nothing lent has changed, but that
+ * feeding counts it (8 and 11 are not counted).
  *
  * What a caller owes: pointers are aligned and not null, not even for a length of 0; what is lent for writing overlaps nothing else
  * that is lent; and the floating-point unit rounds to nearest (FE_TONEAREST, as every program starts), since under another mode
@@ -47,6 +49,10 @@ extern "C" {
 #define ULDASEONG_RECORD 16
 #define ULDASEONG_TEXT 22
 #define ULDASEONG_NOTE 10
+
+/* The longest input that is salvaged, and the length of the list of skipped runs for an input of n bytes. */
+#define ULDASEONG_SALVAGE 65536
+#define ULDASEONG_RUNS(n) ((n) / 17 * 8 + 8)
 
 /* Angles are whole hundredths of an arcsecond, 360,000 to the degree, east and north positive; places are whole hundred-
  * millionths of the sphere's radius. */
@@ -81,6 +87,15 @@ uint8_t uldaseong_save(const uint64_t counts[2], uint8_t *note, size_t note_leng
 
 /* Puts the note's numbers in the place of the counts, whatever these are; an older note rewinds them. Refusals: 8, 9, 16. */
 uint8_t uldaseong_restore(uint64_t counts[2], const uint8_t *note, size_t note_length);
+
+/* Salvages a torn record file. From the front: where the next 16 bytes are a record that uldaseong_convert_record converts, they
+ * are taken, and else one byte is skipped. The taken records stand in `records` as they were, one behind the other from its
+ * beginning, and each run of skipped bytes in `runs` by two unsigned 32-bit numbers, the least byte first: its first place, counted
+ * from 0, and its length. `counts` has the records taken, then the runs skipped; the bytes of both pieces behind these stay. What
+ * is taken may begin inside a record whose numbers look like a mark. `records` is as long as the input, and `runs` has
+ * ULDASEONG_RUNS(input_length) bytes. Refusals: 23, 24. */
+uint8_t uldaseong_salvage(const uint8_t *input, size_t input_length, uint8_t *records, size_t records_length, uint8_t *runs,
+                          size_t runs_length, uint64_t counts[2]);
 
 /* A position as text by ISO 6709: degrees, minutes and seconds with two decimals, latitude first. +450000.00+0900000.00/ is 45
  * degrees north and 90 east. It has no null byte at its end. */

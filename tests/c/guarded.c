@@ -41,11 +41,15 @@ void hold(int fact, const char *what) {
 }
 
 void hold_status(uint8_t status, int allowed) {
-    hold(status <= 18 && (allowed >> status & 1) != 0, "a status that the call does not have");
+    hold(status <= 24 && (allowed >> status & 1) != 0, "a status that the call does not have");
 }
 
 void hold_rest(const uint8_t *guard, const uint8_t *before, const void *piece, size_t length) {
     size_t at = (size_t)((const uint8_t *)piece - guard), end = at + length;
     hold(memcmp(guard, before, at) == 0 && memcmp(guard + end, before + end, page - end) == 0,
          "a call changed what it was not to change");
+}
+
+uint64_t number_at(const uint8_t *bytes) {
+    return bytes[0] | (uint64_t)bytes[1] << 8 | (uint64_t)bytes[2] << 16 | (uint64_t)bytes[3] << 24;
 }

@@ -11,7 +11,7 @@
 /* The statuses of a call whose piece is not of the length asked for: 8, of a record and of a note. */
 enum { PIECES = 1 << 8 };
 
-/* The length of a page. */
+/* The length of a page, which may be that of several. */
 extern size_t page;
 
 /* A page between two that may not be touched. */
@@ -34,6 +34,9 @@ void hold_status(uint8_t status, int allowed);
 
 /* Holds that of a page, as it was before a call, nothing changed but a piece. */
 void hold_rest(const uint8_t *guard, const uint8_t *before, const void *piece, size_t length);
+
+/* The unsigned number that four bytes stand for, the least of them first. */
+uint64_t number_at(const uint8_t *bytes);
 
 /* Calls on places (places.c), on texts (texts.c) and on notes (notes.c), so many of each function. Every status is to be seen. */
 void call_places(long rounds, uint8_t *out);

@@ -19,10 +19,6 @@ static void hold_sum(uint8_t status, uint64_t moved, uint64_t refused) {
     hold((status == 16) == more, "a sum that is refused, or that is not");
 }
 
-static uint64_t number_at(const uint8_t *bytes) {
-    return bytes[0] | (uint64_t)bytes[1] << 8 | (uint64_t)bytes[2] << 16 | (uint64_t)bytes[3] << 24;
-}
-
 /* The counts stand in a page that may only be read. Answers the status' bit. */
 static int call_save(uint8_t *in, uint8_t *out, uint8_t *before) {
     size_t length = some_length(ULDASEONG_NOTE);

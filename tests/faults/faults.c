@@ -1,7 +1,7 @@
-/* A library to be loaded before libc: chosen reads of standard input and writes of standard output go wrong, each once.
-   FAULTS names them, as in "read:2:short,read:3:eintr": the call, which one from 1, or 0 for every one, and how: eio, eagain and
-   eintr fail with that error, short moves 7 bytes at most and byte one. Each fault leaves an x on descriptor 9, so that a test
-   sees that it happened. */
+/* A library to be loaded before libc: chosen reads of standard input and writes of standard output and standard error go wrong, each
+   once. FAULTS names them, as in "read:2:short,read:3:eintr": the call, read, write or say, which one from 1, or 0 for every one
+   that is not named before it, and how: eio, eagain and eintr fail with that error, short moves 7 bytes at most and byte one. Each
+   fault leaves an x on descriptor 9, so that a test sees that it happened. */
 #define _GNU_SOURCE
 #include <errno.h>
 #include <stdio.h>
@@ -52,7 +52,12 @@ ssize_t read(int descriptor, void *bytes, size_t size) {
 }
 
 ssize_t write(int descriptor, const void *bytes, size_t size) {
-    static long calls;
-    long most = descriptor == 1 ? allowed("write", ++calls, size) : (long)size;
+    static long writes, says;
+    long most = (long)size;
+    if (descriptor == 1) {
+        most = allowed("write", ++writes, size);
+    } else if (descriptor == 2) {
+        most = allowed("say", ++says, size);
+    }
     return most < 0 ? -1 : syscall(SYS_write, descriptor, bytes, most);
 }

@@ -22,8 +22,10 @@ pub mod Events
 pub mod Notes
 pub mod Statuses
 pub mod Texts
+pub mod Salvages
 pub mod Reprojections
 pub mod Following
 pub mod Printed
 pub mod ReprojectedRuns
+pub mod SalvagedRuns
 pub mod Exchanges

@@ -6,7 +6,7 @@ use Prim.Native.Nat.{ℕ, _+_, _≤_, _<_}
 use native.Mathlib.Omega.{arith}
 use borrow.Author.Tests.{lt-ltb, le-ltb, eq-eqb, ne-eqb, eqb-true}
 use lib.Dec.{eqb}
-use lib.ListN.{length, take}
+use lib.ListN.{length, take, drop}
 use Rattle.parallel.specs.Refusal.{refused, given, onGiven, unless}
 use Rattle.parallel.proofs.Orders.{Passes}
 use Rattle.little_endian.specs.Whole.{wholeOf, leastBytes}
@@ -19,6 +19,10 @@ use Rattle.session.specs.declared.Session.{Session}
 use Rattle.session.specs.Handover.{withCounts, saveOf, restoreOf}
 use Rattle.claims.specs.Texts.{byte}
 use Rattle.claims.specs.Notes.{Marked, four, bytesOf, sessionWith, examples, Notes}
+
+-- the number of four bytes, by the part that they are
+pub four-is : (l : List ℕ) (at : ℕ) → at + 4 ≤ length l → four l at ≡ wholeOf (take 4 (drop at l))
+four-is l at h = whole-four (byte l at) (byte l (at + 1)) (byte l (at + 2)) (byte l (at + 3)) ∙ ap wholeOf (four-at l at h)
 
 -- ---- saving
 
@@ -47,7 +51,7 @@ module _ (note : List ℕ) (long : length note ≡ 10) where
 
   number-is : (at : ℕ) → at + 4 ≤ length note → numberAt narrow note at ≡ four note at
   unfolding numberAt
-  number-is at h = sym (whole-four (byte note at) (byte note (at + 1)) (byte note (at + 2)) (byte note (at + 3)) ∙ ap wholeOf (four-at note at h))
+  number-is at h = sym (four-is note at h)
 
   counts-are : countsIn narrow note ≡ (four note 2, four note 6)
   counts-are = rw (number-is 2 (omega arith), number-is 6 (omega arith))

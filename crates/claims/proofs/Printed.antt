@@ -72,6 +72,7 @@ printing =
       reads = reads-do-not-matter;
       runs = runs-write;
       runs-end = runs-end;
+      all-taken = λ n. (refl, refl);
       tail = tail-refused;
       tail-number = tail-numbered;
       counts = session-of-history;

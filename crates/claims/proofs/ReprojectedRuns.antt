@@ -1,7 +1,7 @@
 -- What the program `reproject` writes of a whole input, from what a run writes by its phase.
 use mathlib.Core.List.{List, [], _∷_, _++_, append-nil}
 use mathlib.Core.Logic.{_⊎_, inl, inr}
-use mathlib.Core.Bool.{true}
+use mathlib.Core.Bool.{true, false≢true}
 use mathlib.Core.Path.{_≡_, refl, sym, ap, subst, _∙_}
 use Prim.Native.Nat.{ℕ, _+_, _≤_}
 use native.Mathlib.Omega.{arith}
@@ -11,7 +11,7 @@ use Rattle.reprojection.specs.All.{firstReprojected, wholeReprojected, reprojec
 use Rattle.reprojection.proofs.Runs.{whole-long, all-long, all-record, all-tail, whole-all}
 use Rattle.jobs.specs.declared.Job.the-variants.{Reproject}
 use Rattle.stream.specs.declared.state.Phase.{Phase}
-use Rattle.stream.specs.declared.state.Phase.the-variants.{Reading, Ended, NotStarted, NotRead, NotWritten}
+use Rattle.stream.specs.declared.state.Phase.the-variants.{Reading, Ended, NotStarted, NotRead, NotWritten, TooLong}
 use Rattle.jobs.specs.Job.{blockOf, resultOf}
 use Rattle.stream.specs.Run.{Turn, offered, standingOf, inputOf, writtenOf, Wrote}
 use Rattle.stream.proofs.Runs.{taken, runs-write}
@@ -27,10 +27,11 @@ record Part (s w : List ℕ) : Type 0 where
 wrote : (phase : Phase) (s w : List ℕ) → Wrote Reproject phase s w → (w ≡ reprojectedAll s) ⊎ Part s w
 unfolding blockOf resultOf reprojectedAll wholeReprojected firstReprojected tailOf
 wrote Reading s w h = inr (record { before = s; last = []; input-is = sym (append-nil s); written-is = h })
-wrote Ended s w h = inl h
+wrote Ended s w h = inl (h .1)
 wrote NotStarted s w h = inl (rw (h .0, h .1))
 wrote NotRead s w h = inr (record { before = s; last = []; input-is = sym (append-nil s); written-is = h })
 wrote NotWritten s w h = inr (record { before = h .before; last = h .last; input-is = h .input-is; written-is = h .written-is })
+wrote TooLong s w h = absurd (false≢true (sym (h .0)))
 
 -- the lengths of a first part and of its whole records
 part-long : (s w : List ℕ) (p : Part s w) → (length w ≤ length (p .before)) × (length s ≡ length (p .before) + length (p .last))
@@ -60,7 +61,8 @@ module _ (arguments : ℕ) (turns : List Turn) where
 
   ended : standingOf Reproject arguments turns .phase ≡ Ended → written arguments turns ≡ reprojectedAll (input arguments turns)
   unfolding resultOf
-  ended e = subst (λ (phase : Phase). Wrote Reproject phase (input arguments turns) (written arguments turns)) e (runs-write Reproject arguments turns)
+  ended e =
+      subst (λ (phase : Phase). Wrote Reproject phase (input arguments turns) (written arguments turns)) e (runs-write Reproject arguments turns) .1
 
 -- ---- what a turn offers
 

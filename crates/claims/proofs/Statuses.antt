@@ -11,6 +11,7 @@ use Rattle.iso6709.specs.Answer.{readOf, writeOf}
 use Rattle.record.specs.Answer.{convertOf}
 use Rattle.record.proofs.Orders.{pair-numbers}
 use Rattle.note.specs.Answer.{writtenAs, readAs}
+use Rattle.torn.specs.Answer.{salvageOf}
 use Rattle.session.specs.Session.{feedOf}
 use Rattle.session.proofs.Handovers.{restored-order}
 use Rattle.uldaseong.specs.Status.{statusOf}
@@ -27,7 +28,7 @@ ordered : {A : Type 0} (order : List Refusal) (a : A) → OfNumbers Above0 order
 ordered order a h = tells (unless order a) (unless-number Above0 order a h)
 
 pub interface : Interface
-unfolding forwardOf inverseOf forwardDegrees inverseDegrees convertOf feedOf readOf writeOf writtenAs readAs
+unfolding forwardOf inverseOf forwardDegrees inverseDegrees convertOf feedOf readOf writeOf writtenAs readAs salvageOf
 interface =
     record {
       forward = λ kind c l f. ordered _ _ (tt, (tt, (tt, (tt, tt))));
@@ -40,8 +41,11 @@ interface =
       write-text = λ l f room. ordered _ _ (tt, (tt, (tt, tt)));
       save = λ session room. ordered _ _ (tt, (tt, tt));
       restore = λ note. subst Tells (sym (restored-order note)) (ordered _ _ (tt, (tt, (tt, tt))));
+      salvage = λ input records list. ordered _ _ (tt, (tt, tt));
       pair-given = λ pair first second. refl;
       pair-refused = λ pair n. refl;
+      counts-given = λ counts records runs. refl;
+      counts-refused = λ counts n. refl;
       counts-are = λ session. refl;
       session-kept = λ session. refl;
       counts-kept = λ m r. refl;

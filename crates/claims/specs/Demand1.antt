@@ -8,6 +8,7 @@ use Prim.Native.Nat.{ℕ, _≤_}
 use lib.Dec.{T, eqb}
 use lib.Ieee.{Float}
 use lib.IntN.{ℤ, natAbs}
+use lib.ListN.{length}
 use Rattle.parallel.specs.Table.{rowOf}
 use Rattle.parallel.specs.Parallel.{halfWidth}
 use Rattle.parallel.specs.Refusal.{Refusal, Outcome, refused, given, isKind}
@@ -23,6 +24,8 @@ use Rattle.note.specs.Note.{narrow, noteOf, countsIn}
 use Rattle.note.specs.Answer.{writeOrder as saveOrder, readOrder as restoreOrder}
 use Rattle.record.specs.Record.{formIn}
 use Rattle.record.specs.Answer.{pairOf, convertOrder, convertOf, outputAfter}
+use Rattle.torn.specs.Parts.{takenOf, runsOf}
+use Rattle.torn.specs.Answer.{salvageOrder, salvageOf}
 use Rattle.session.specs.declared.Session.{Session}
 use Rattle.session.specs.Session.{feedOrder, feedOf}
 use Rattle.session.specs.Handover.{withCounts, saveOf, restoreOf}
@@ -97,5 +100,9 @@ pub record Demand1 : Type 0 where
       (8 ∷ 16 ∷ []) (noteOf narrow (session .moved, session .refused))
   pub restore : (note : List ℕ) →
       Ordered (restoreOf note) (restoreOrder narrow note) (8 ∷ 9 ∷ 16 ∷ []) (withCounts (countsIn narrow note))
+  -- on a file and the lengths of the two pieces that are lent
+  pub salvage : (input : List ℕ) (records list : ℕ) →
+      Ordered (salvageOf input records list) (salvageOrder input records list)
+      (23 ∷ 24 ∷ []) (length (takenOf input), length (runsOf input))
   -- a refusal leaves the output piece as it was lent, whatever its length
   pub output-kept : (input output : List ℕ) (n : ℕ) → outputAfter input output (refused n) ≡ output

@@ -11,6 +11,7 @@ use Rattle.projection.specs.Answer.{forwardOf, inverseOf}
 use Rattle.degrees.specs.Answer.{forwardOf as forwardDegrees, inverseOf as inverseDegrees}
 use Rattle.iso6709.specs.Answer.{readOf, writeOf}
 use Rattle.record.specs.Answer.{convertOf}
+use Rattle.torn.specs.Answer.{salvageOf}
 use Rattle.session.specs.declared.Session.{Session}
 use Rattle.session.specs.Session.{feedOf}
 use Rattle.session.specs.Handover.{saveOf, restoreOf}
@@ -36,9 +37,13 @@ pub record Interface : Type 0 where
   pub write-text : (longitude latitude : ℤ) (room : ℕ) → Tells (writeOf longitude latitude room)
   pub save : (session : Session) (room : ℕ) → Tells (saveOf session room)
   pub restore : (note : List ℕ) → Tells (restoreOf note)
+  pub salvage : (input : List ℕ) (records list : ℕ) → Tells (salvageOf input records list)
   -- the lent pair has x and then y, or longitude and then latitude; a refusal leaves it
   pub pair-given : (pair : List ℤ) (first second : ℤ) → pairAfter pair (given (first, second)) ≡ first ∷ second ∷ []
   pub pair-refused : (pair : List ℤ) (n : ℕ) → pairAfter pair (refused n) ≡ pair
+  -- the lent counts have the records taken and then the runs skipped; a refusal leaves them
+  pub counts-given : (counts : List ℕ) (records runs : ℕ) → pairAfter counts (given (records, runs)) ≡ records ∷ runs ∷ []
+  pub counts-refused : (counts : List ℕ) (n : ℕ) → pairAfter counts (refused n) ≡ counts
   -- a session is kept as its two counts, moved and then refused, and nothing is lost either way
   pub counts-are : (session : Session) → countsOf session ≡ session .moved ∷ session .refused ∷ []
   pub session-kept : (session : Session) → sessionIn (countsOf session) ≡ session

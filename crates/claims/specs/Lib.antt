@@ -19,7 +19,10 @@ pub mod CosineKinds
 pub mod Texts
 pub mod TextExamples
 pub mod Notes
+pub mod Salvages
+pub mod SalvageExamples
 pub mod Exchange
 pub mod Reprojection
 pub mod ReprojectionExamples
 pub mod ReprojectedRuns
+pub mod SalvagedRuns

@@ -1,5 +1,6 @@
 -- What the program `convert` prints of an input: that of the whole input, whatever pieces it comes in, or where a read or a write fails
 -- the lines of whole records alone; in text that is what it should be.
+use mathlib.Core.Bool.{true}
 use mathlib.Core.List.{List, [], _∷_, _++_}
 use mathlib.Core.Path.{_≡_}
 use Prim.Native.Nat.{ℕ}
@@ -11,6 +12,8 @@ use Rattle.lines.specs.Line.{lineOf}
 use Rattle.report.specs.Block.{SessionsCompose, LinesCompose}
 use Rattle.report.specs.Program.{printedOf, Numbered, TailNumbered, ReadsDoNotMatter, TailRefused, SessionOfHistory}
 use Rattle.jobs.specs.declared.Job.{Job}
+use Rattle.jobs.specs.declared.Job.the-variants.{Convert, Reproject}
+use Rattle.jobs.specs.Job.{takesIn}
 use Rattle.stream.specs.Run.{RunsWrite, RunsEnd}
 use Rattle.claims.specs.RecordExample.{input}
 
@@ -64,8 +67,9 @@ pub record Printing : Type 0 where
   -- what a run of any job has written by its phase, whatever its reads and writes come to: only one that ended has written what the
   -- job makes of the whole input, `convert`'s last line with it
   pub runs : RunsWrite
-  -- and a run whose reads and writes go well ends with its input
+  -- and a run whose reads and writes go well ends with its input, where the job takes it; `convert` and `reproject` take any
   pub runs-end : (job : Job) → RunsEnd job
+  pub all-taken : (n : ℕ) → (takesIn Convert n ≡ true) × (takesIn Reproject n ≡ true)
   -- a tail shorter than 16 bytes prints "refused 8" with the next number, and no count changes
   pub tail : TailRefused
   pub tail-number : TailNumbered

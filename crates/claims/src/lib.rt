@@ -13,6 +13,9 @@ ghost use Rattle.claims.specs.RecordExample.{RecordExample};
 ghost use Rattle.claims.specs.ReprojectedRuns.{ReprojectedRuns};
 ghost use Rattle.claims.specs.Reprojection.{Reprojection};
 ghost use Rattle.claims.specs.ReprojectionExamples.{ReprojectionExamples};
+ghost use Rattle.claims.specs.SalvageExamples.{SalvageExamples};
+ghost use Rattle.claims.specs.Salvages.{Salvages};
+ghost use Rattle.claims.specs.SalvagedRuns.{SalvagedRuns};
 ghost use Rattle.claims.specs.Sharp.{Sharp};
 ghost use Rattle.claims.specs.TextExamples.{TextExamples};
 ghost use Rattle.claims.specs.Texts.{Texts};
@@ -21,5 +24,5 @@ ghost use Rattle.claims.specs.Written.{Written};
 
 // Does nothing. Its `ensures` is the product of all claims.
 pub fn hold()
-    ensures { λ _. ⌜ Demands × Edges × TurnedPlaces × Sharp × Examples × RecordExample × Arithmetic × HouseSine × CosineKinds × Written × Printing × Interface × Texts × TextExamples × Notes × Exchange × Reprojection × ReprojectionExamples × ReprojectedRuns ⌝ }
+    ensures { λ _. ⌜ Demands × Edges × TurnedPlaces × Sharp × Examples × RecordExample × Arithmetic × HouseSine × CosineKinds × Written × Printing × Interface × Texts × TextExamples × Notes × Salvages × SalvageExamples × Exchange × Reprojection × ReprojectionExamples × ReprojectedRuns × SalvagedRuns ⌝ }
 {}

@@ -8,6 +8,10 @@ use lib.ListN.{length, take, drop}
 unfoldable pub putAt : List ℕ → ℕ → List ℕ → List ℕ
 putAt l at text = take at l ++ (text ++ drop (at + length text) l)
 
+-- a buffer with text at its front
+unfoldable pub putFront : List ℕ → List ℕ → List ℕ
+putFront l text = text ++ drop (length text) l
+
 -- text was put at a place of a buffer l, which became l′, and `next` is the place behind it
 pub record Put (l : List ℕ) (at : ℕ) (text : List ℕ) (next : ℕ) (l′ : List ℕ) : Type 0 where
   pub behind : next ≡ at + length text

@@ -1,10 +1,10 @@
 // The loop: here bytes are only moved.
 ghost use mathlib.Core.Path.{_≡_};
-ghost use Prim.Native.Nat.{_+_, _≤_, _<_};
-ghost use Rattle.record.specs.Record.{size};
+ghost use Prim.Native.Nat.{_+_, _≤_};
+ghost use lib.ListN.{length};
 ghost use Rattle.stream.specs.Step.{standing};
 ghost use Rattle.report.specs.Block.{mostNumber};
-ghost use Rattle.filter.specs.Turns.{records, Room, TurnsBy, Reached, leftIn};
+ghost use Rattle.filter.specs.Turns.{records, heldMost, Room, TurnsBy, Reached, leftIn};
 use super::message::say;
 use jobs::Job;
 use lines::LINE_ROOM;
@@ -16,14 +16,15 @@ use stream::after_read;
 use stream::after_write;
 use stream::got_of;
 use stream::phase_at_start;
+use torn::MOST;
 
 // The records of a read, and their bytes.
 const RECORDS: usize = 4096;
 
 const READ: usize = SIZE * RECORDS;
 
-// Room for the bytes of a read behind those held over, which are fewer than a record.
-const BUFFER: usize = SIZE + READ;
+// Room for the bytes of a read behind those held over, which may be a torn file.
+const BUFFER: usize = MOST + READ;
 
 // Room for the lines of a read: with the bytes held over it has no more whole records.
 const TEXT: usize = LINE_ROOM * RECORDS;
@@ -36,13 +37,15 @@ pub struct Turned {
     pub written: bool,
 }
 
-// Runs a job from standard input to standard output. Where it does not come to the end, it says why on standard error.
+// Runs a job from standard input to standard output. Where it does not come to the end, it says why on standard error; where it does,
+// what the job has to say of it.
 pub fn run(job: Job) {
     let mut buffer = [0u8; BUFFER];
     let mut text = [0u8; TEXT];
     let state = turns(job, os::arg_count(), &mut buffer, &mut text);
     let phase = state.phase;
-    say(job, phase, &mut text);
+    let held = state.held;
+    say(job, phase, &buffer[..held], &mut text);
 }
 
 // The turns of a run, which none uses up: at a million reads a second they last for 142 years. The numbers of all records that they
@@ -53,6 +56,7 @@ const TURNS: u64 = (u64::MAX - 1) / (RECORDS as u64);
 fn turns(job: Job, arguments: usize, buffer: &mut [u8], text: &mut [u8]) -> State
     requires { ⌜ Room (now buffer) (now text) ⌝ }
     ensures { λ r. ⌜ Reached job arguments (standing r (now (buffer .exit))) 0 ⌝ }
+    ensures { λ r. ⌜ r .held ≤ length (now (buffer .exit)) ⌝ }
 {
     let phase = phase_at_start(arguments);
     let mut state = State {
@@ -73,7 +77,7 @@ fn turns(job: Job, arguments: usize, buffer: &mut [u8], text: &mut [u8]) -> Stat
 
 // Reads once, and writes what is to be written after that.
 fn turn(job: Job, state: State, buffer: &mut [u8], text: &mut [u8]) -> Turned
-    requires { ⌜ Room (now buffer) (now text) × (state .held < size) × (state .next + records ≤ mostNumber) ⌝ }
+    requires { ⌜ Room (now buffer) (now text) × (state .held ≤ heldMost job) × (state .next + records ≤ mostNumber) ⌝ }
     ensures { λ r. ⌜ TurnsBy job state (now (buffer .entry)) r (now (buffer .exit)) ⌝ }
 {
     let held = state.held;
@@ -102,5 +106,6 @@ fn left_in(phase: Phase, left: u64) -> u64
         Phase::NotStarted => 0,
         Phase::NotRead => 0,
         Phase::NotWritten => 0,
+        Phase::TooLong => 0,
     }
 }

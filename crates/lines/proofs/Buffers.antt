@@ -3,7 +3,6 @@ use mathlib.Core.Path.{_≡_, refl, sym, ap, _∙_}
 use mathlib.Core.Bool.{Bool, true, false}
 use mathlib.Core.List.{List, [], _++_, append-assoc}
 use Prim.Native.Nat.{ℕ, _+_, _-_, _≤_, _<_}
-use native.Mathlib.Nat.{zero-add}
 use native.Mathlib.Omega.{arith}
 use borrow.Author.Tests.{leb-false}
 use borrow.Rule.Slice.PartMut.{mid-len}
@@ -14,12 +13,12 @@ use lib.Seq.{paste, take-length, drop-append-le, drop-drop}
 use mir.Syntax.{w32}
 use mir.Val.{SFits, toZ, ofZ}
 use mir.Facts.{toZ-ofZ}
-use Rattle.digits.specs.Put.{putAt, Put}
-use Rattle.digits.proofs.Puts.{put-twice}
+use Rattle.digits.specs.Put.{putAt, putFront, Put}
+use Rattle.digits.proofs.Puts.{put-twice, front-put, put-front}
 use Rattle.lines.specs.declared.buffer.Text.{Text}
 use Rattle.lines.specs.declared.buffer.Text.the-variants.{Bytes, TooShort}
 use Rattle.lines.specs.Decimal.{numberText}
-use Rattle.lines.specs.Buffer.{putFront, Placed}
+use Rattle.lines.specs.Buffer.{Placed}
 
 -- a whole copy
 pub put-copy : (l l′ text : List ℕ) (at i : ℕ) → i ≡ length text → l′ ≡ paste l at text i → Put l at text (at + i) l′
@@ -47,17 +46,7 @@ put-none l = record { behind = refl; holds = refl }
 
 -- text put at the front of a buffer that it fits, and a buffer that is too short
 pub placed : {l l′ text : List ℕ} {end : ℕ} {fits : Bool} → fits ≡ true → Put l 0 text end l′ → Placed fits text l (Bytes end) l′
-unfolding putAt putFront
-placed {text = text} {end} e p =
-    let n : end ≡ length text = p .behind ∙ zero-add (length text) in
-    record { counted = rw (e, n); holds = rw e (p .holds ∙ rw (zero-add (length text))) }
-
--- text that stands at the front is put at place 0
-pub front-put : (l text : List ℕ) {l′ : List ℕ} {end : ℕ} → end ≡ length text → l′ ≡ putFront l text → Put l 0 text end l′
-unfolding putAt putFront
-front-put l text e h =
-    let z : 0 + length text ≡ length text = zero-add (length text) in
-    record { behind = e ∙ sym z; holds = h ∙ ap (λ (n : ℕ). text ++ drop n l) (sym z) }
+placed e p = let (n, h) = put-front p in record { counted = rw (e, n); holds = rw e h }
 
 -- what `bytes::copy` copies stands at the front, and is put there
 pub copied : (l text : List ℕ) {l′ : List ℕ} → l′ ≡ take (length text) text ++ drop (length text) l → l′ ≡ putFront l text

@@ -2,15 +2,12 @@
 use mathlib.Core.Path.{_≡_}
 use mathlib.Core.Bool.{Bool, cond}
 use mathlib.Core.Option.{Option, none, some}
-use mathlib.Core.List.{List, _++_}
+use mathlib.Core.List.{List}
 use Prim.Native.Nat.{ℕ}
-use lib.ListN.{length, drop}
+use lib.ListN.{length}
+use Rattle.digits.specs.Put.{putFront}
 use Rattle.lines.specs.declared.buffer.Text.{Text}
 use Rattle.lines.specs.declared.buffer.Text.the-variants.{Bytes, TooShort}
-
--- a buffer with text at its front
-unfoldable pub putFront : List ℕ → List ℕ → List ℕ
-putFront l text = text ++ drop (length text) l
 
 -- how many bytes of text a buffer has at its front: none where it is too short
 abbrev pub bytes : Text → Option ℕ

@@ -44,3 +44,7 @@ lineRoom = 8 + 3 + 4 + 20 + 1
 -- the room of the closing line: two counts of 64 bits, 20 digits each, the words with their spaces, and a line feed
 abbrev pub closingRoom : ℕ
 closingRoom = 6 + 20 + 9 + 20 + 1
+
+-- the room of a line of two words of these lengths, with a number of 64 bits behind each
+abbrev pub namedRoom : ℕ → ℕ → ℕ
+namedRoom first second = first + 20 + second + 20 + 1

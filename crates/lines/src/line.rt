@@ -1,5 +1,6 @@
-// The line of an answer, and the closing line of a session.
+// The line of an answer, the closing line of a session, and a line of two words with a number behind each.
 ghost use mathlib.Core.List.{_++_};
+ghost use mathlib.Core.Path.{_≡_};
 ghost use Prim.Native.Nat.{_+_, _≤_, _<_};
 ghost use lib.Dec.{leb};
 ghost use lib.ListN.{length};
@@ -7,7 +8,7 @@ ghost use Rattle.digits.specs.Put.{Put};
 ghost use Rattle.projection.specs.Answer.{meaning};
 ghost use Rattle.lines.specs.Decimal.{decimalOf, numberText};
 ghost use Rattle.lines.specs.Buffer.{Placed};
-ghost use Rattle.lines.specs.Line.{space, lineFeed, named, lineOf, closingOf, lineRoom, closingRoom};
+ghost use Rattle.lines.specs.Line.{space, lineFeed, named, lineOf, closingOf, lineRoom, closingRoom, namedRoom};
 use super::buffer::Text;
 use super::buffer::put_byte;
 use super::buffer::put_bytes;
@@ -22,6 +23,9 @@ pub const LINE_ROOM: usize = 36;
 
 // The room for the closing line: two counts of 20 digits, and 16 bytes of words, spaces and a line feed.
 pub const CLOSING_ROOM: usize = 56;
+
+// The room for two numbers of 20 digits and a line feed.
+const NUMBERS_ROOM: usize = 41;
 
 // Puts the line of the answer to the record of this number at the front of the text.
 pub fn answer_line(number: u64, answer: Answer, text: &mut [u8]) -> Text
@@ -43,6 +47,29 @@ pub fn closing_line(session: Session, text: &mut [u8]) -> Text
     }
     let end = put_closing(text, session);
     Text::Bytes(end)
+}
+
+// Puts the line of two words, each with a whole number behind it, at the front of the text.
+pub fn named_line(first: &[u8], m: u64, second: &[u8], n: u64, text: &mut [u8]) -> Text
+    ensures { λ r. ⌜ Placed (leb (namedRoom (length (now (first .entry))) (length (now (second .entry)))) (length (now (text .entry)))) (named (now (first .entry)) m ++ (named (now (second .entry)) n ++ lineFeed)) (now (text .entry)) r (now (text .exit)) ⌝ }
+{
+    if !words_fit(first.len(), second.len(), text.len()) {
+        return Text::TooShort;
+    }
+    let end = put_both(text, first, m, second, n);
+    Text::Bytes(end)
+}
+
+// Whether a text of this length has the room for two words of these lengths and their numbers. The lengths are taken off one by one:
+// their sum may not have 64 bits.
+fn words_fit(first: usize, second: usize, room: usize) -> bool
+    ensures { λ r. ⌜ r ≡ leb (namedRoom first second) room ⌝ }
+{
+    if room < NUMBERS_ROOM {
+        return false;
+    }
+    let words = room - NUMBERS_ROOM;
+    words >= first && words - first >= second
 }
 
 // Puts the line of an answer at the front of a text with the room for it, and answers the place behind it.

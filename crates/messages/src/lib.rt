@@ -3,31 +3,43 @@ ghost use mathlib.Core.Path.{_≡_};
 ghost use mathlib.Core.Bool.{true};
 ghost use mathlib.Core.List.{_++_};
 ghost use Prim.Native.Nat.{_+_, _≤_};
-ghost use lib.Dec.{leb};
 ghost use lib.ListN.{length};
 ghost use Rattle.digits.specs.Put.{Put};
 ghost use Rattle.lines.specs.Buffer.{Placed};
-ghost use Rattle.messages.specs.Message.{nameOf, nameRoom, messageOf, messageRoom, hasError};
+ghost use Rattle.messages.specs.Message.{nameOf, nameRoom, messageOf, messageFits, endedOf, endedFits, hasError};
 use jobs::Job;
 use lines::Text;
+use listing::listing;
 use stream::Phase;
 
-// The room for a message.
+// The room for a message but at the end.
 pub const MESSAGE_ROOM: usize = 64;
 
-// Puts what is to be said where a run stops in a phase at the front of the text.
-pub fn message(job: Job, phase: Phase, text: &mut [u8]) -> Text
-    ensures { λ r. ⌜ Placed (leb messageRoom (length (now (text .entry)))) (messageOf job phase) (now (text .entry)) r (now (text .exit)) ⌝ }
+// Puts what is to be said where a run stops in a phase, with the bytes that waited then, at the front of the text.
+pub fn message(job: Job, phase: Phase, rest: &[u8], text: &mut [u8]) -> Text
+    ensures { λ r. ⌜ Placed (messageFits job phase (now (rest .entry)) (length (now (text .entry)))) (messageOf job phase (now (rest .entry))) (now (text .entry)) r (now (text .exit)) ⌝ }
 {
     if text.len() < MESSAGE_ROOM {
         return Text::TooShort;
     }
     match phase {
         Phase::Reading => named(job, b"standard input: too many reads\n", text),
-        Phase::Ended => Text::Bytes(0),
+        Phase::Ended => at_end(job, rest, text),
         Phase::NotStarted => named(job, b"takes no arguments, and reads standard input\n", text),
         Phase::NotRead => named(job, b"standard input", text),
         Phase::NotWritten => named(job, b"standard output", text),
+        Phase::TooLong => named(job, b"standard input: more than 65536 bytes\n", text),
+    }
+}
+
+// The same at the end.
+fn at_end(job: Job, rest: &[u8], text: &mut [u8]) -> Text
+    ensures { λ r. ⌜ Placed (endedFits job (now (rest .entry)) (length (now (text .entry)))) (endedOf job (now (rest .entry))) (now (text .entry)) r (now (text .exit)) ⌝ }
+{
+    match job {
+        Job::Convert => Text::Bytes(0),
+        Job::Reproject => Text::Bytes(0),
+        Job::Salvage => listing(rest, text),
     }
 }
 
@@ -41,6 +53,7 @@ pub fn has_error(phase: Phase) -> bool
         Phase::NotStarted => false,
         Phase::NotRead => true,
         Phase::NotWritten => true,
+        Phase::TooLong => false,
     }
 }
 
@@ -63,5 +76,6 @@ fn put_name(job: Job, text: &mut [u8]) -> usize
     match job {
         Job::Convert => bytes::copy(b"convert: ", text),
         Job::Reproject => bytes::copy(b"reproject: ", text),
+        Job::Salvage => bytes::copy(b"salvage: ", text),
     }
 }

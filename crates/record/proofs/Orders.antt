@@ -1,21 +1,21 @@
 -- What a record is answered, refusal by refusal in its order.
-use mathlib.Core.Bool.{Bool, true, false, not, cond}
+use mathlib.Core.Bool.{Bool, true, false, not, cond, and-eq-true-iff}
 use mathlib.Core.List.{List}
 use mathlib.Core.Path.{_≡_, sym, subst}
 use Prim.Native.Nat.{ℕ}
 use native.Mathlib.Omega.{arith}
-use borrow.Author.Tests.{eq-eqb, ne-eqb}
+use borrow.Author.Tests.{eq-eqb, ne-eqb, eqb-true}
 use lib.Dec.{T, eqb, eqb→eq}
 use lib.IntN.{ℤ}
-use lib.ListN.{getD}
+use lib.ListN.{length, getD}
 use Rattle.whole.proofs.Tests.{conj}
 use Rattle.angle.proofs.Judged.{not-false}
-use Rattle.parallel.specs.Refusal.{Outcome, refused, given, unless}
+use Rattle.parallel.specs.Refusal.{Outcome, refused, given, isGiven, unless}
 use Rattle.parallel.proofs.Orders.{Applies, Passes, OfNumbers}
 use Rattle.projection.specs.Answer.{forwardOrder, inverseOrder, forwardOf, inverseOf}
 use Rattle.record.specs.Record.{size, mark, position, place, hasMark, kindIn, formIn, centralIn, firstIn, secondIn, movedOf}
 use Rattle.record.specs.Refusal.{bothOfSize, badPieces, badMark}
-use Rattle.record.specs.Answer.{pairOrder, pairOf, judgedOf, convertOf, outputAfter}
+use Rattle.record.specs.Answer.{pairOrder, pairOf, judgedOf, convertible, convertOf, outputAfter}
 
 -- the same is made of equal numbers
 pub at-numbers : {A : Type 0} (make : ℕ → ℤ → ℤ → ℤ → A) {n n' : ℕ} {c c' f f' s s' : ℤ} → n ≡ n' → c ≡ c' → f ≡ f' → s ≡ s' →
@@ -83,3 +83,20 @@ module _ (input output : List ℕ) {answer : Outcome (ℤ × ℤ)} where
   pub written : (pair : ℤ × ℤ) → given pair ≡ answer → movedOf input pair ≡ outputAfter input output answer
   unfolding outputAfter
   written pair e = rw (sym e)
+
+-- ---- whether bytes are a record that the rules convert
+
+pub not-a-record : (bytes : List ℕ) → (length bytes ≡ size → ⊥) → false ≡ convertible bytes
+unfolding convertible
+not-a-record bytes h = rw (ne-eqb (length bytes) size h)
+
+pub by-judgement : (bytes : List ℕ) (answer : Outcome (ℤ × ℤ)) → length bytes ≡ size → answer ≡ judgedOf bytes →
+    isGiven answer ≡ convertible bytes
+unfolding convertible
+by-judgement bytes answer h e = rw (eq-eqb (length bytes) size h, e)
+
+-- such a record has its length
+pub convertible-length : (bytes : List ℕ) → convertible bytes ≡ true → length bytes ≡ size
+unfolding convertible
+convertible-length bytes e =
+    eqb-true (length bytes) size (and-eq-true-iff (eqb (length bytes) size) (isGiven (judgedOf bytes)) .0 e .0)

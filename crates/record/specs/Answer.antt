@@ -1,15 +1,16 @@
 -- What a record is answered, and what the output piece holds afterwards.
-use mathlib.Core.Bool.{cond}
+use mathlib.Core.Bool.{Bool, cond, _&&_}
 use mathlib.Core.List.{List, _∷_}
 use Prim.Native.Nat.{ℕ}
 use lib.Dec.{eqb}
 use lib.IntN.{ℤ}
+use lib.ListN.{length}
 use Rattle.parallel.specs.Table.{rowOf}
-use Rattle.parallel.specs.Refusal.{Refusal, Outcome, refused, given, unless}
+use Rattle.parallel.specs.Refusal.{Refusal, Outcome, refused, given, isGiven, unless}
 use Rattle.projection.specs.Forward.{placeOf}
 use Rattle.projection.specs.Inverse.{positionOf}
 use Rattle.projection.specs.Answer.{forwardOrder, inverseOrder}
-use Rattle.record.specs.Record.{position, kindIn, formIn, centralIn, firstIn, secondIn, movedOf}
+use Rattle.record.specs.Record.{size, position, kindIn, formIn, centralIn, firstIn, secondIn, movedOf}
 use Rattle.record.specs.Refusal.{badPieces, badMark, badForm}
 
 -- the refusals of the pair that a record holds: a position's, or a place's
@@ -32,6 +33,10 @@ recordOrder bytes = badMark bytes ∷ badForm bytes ∷ pairOrder bytes
 
 unfoldable pub judgedOf : List ℕ → Outcome (ℤ × ℤ)
 judgedOf bytes = unless (recordOrder bytes) (pairOf bytes)
+
+-- bytes that are a record which the rules convert, by its own judgement
+unfoldable pub convertible : List ℕ → Bool
+convertible bytes = eqb (length bytes) size && isGiven (judgedOf bytes)
 
 -- with the pieces, of which the output is given by its length
 abbrev pub convertOrder : List ℕ → ℕ → List Refusal

@@ -3,7 +3,7 @@ ghost use mathlib.Core.Path.{_≡_};
 ghost use lib.ListN.{length};
 ghost use Rattle.projection.specs.Answer.{meaning};
 ghost use Rattle.record.specs.Record.{size};
-ghost use Rattle.record.specs.Answer.{judgedOf, convertOf, outputAfter};
+ghost use Rattle.record.specs.Answer.{judgedOf, convertible, convertOf, outputAfter};
 use super::layout::CENTRAL;
 use super::layout::FIRST;
 use super::layout::FORM;
@@ -11,6 +11,7 @@ use super::layout::KIND;
 use super::layout::PLACE;
 use super::layout::POSITION;
 use super::layout::SECOND;
+use super::layout::SIZE;
 use super::layout::both_of_size;
 use super::layout::has_mark;
 use super::layout::write;
@@ -32,6 +33,19 @@ pub fn convert_record(input: &[u8], output: &mut [u8]) -> Answer
         write(input, output, first, second);
     }
     answer
+}
+
+// Whether bytes are a record that the rules convert.
+pub fn converts(bytes: &[u8]) -> bool
+    ensures { λ r. ⌜ r ≡ convertible (now (bytes .entry)) ⌝ }
+{
+    if bytes.len() != SIZE {
+        return false;
+    }
+    match judge(bytes) {
+        Answer::Pair(_, _) => true,
+        Answer::Refused(_) => false,
+    }
 }
 
 // What a record is answered by its own bytes.

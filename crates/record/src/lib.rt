@@ -3,6 +3,7 @@ mod convert;
 mod layout;
 
 pub use convert::convert_record;
+pub use convert::converts;
 pub use layout::CENTRAL;
 pub use layout::FIRST;
 pub use layout::KIND;

@@ -2,16 +2,13 @@
 use mathlib.Core.Path.{_≡_}
 use mathlib.Core.Bool.{Bool, true, false, cond, _&&_}
 use mathlib.Core.List.{List}
-use Prim.Native.Nat.{ℕ, _+_, _/_, _%_}
+use Prim.Native.Nat.{ℕ, _+_}
 use lib.Dec.{eqb, leb}
 use lib.IntN.{ℤ, pos, negsuc}
 use lib.ListN.{length, take, drop}
-use Rattle.record.specs.Record.{size}
-use Rattle.digits.specs.Put.{Put}
-use Rattle.lines.specs.Buffer.{putFront}
-use Rattle.report.specs.Block.{linesFit}
-use Rattle.report.specs.Program.{endRoom}
+use Rattle.digits.specs.Put.{putFront, Put}
 use Rattle.jobs.specs.declared.Job.{Job}
+use Rattle.jobs.specs.Job.{waitingIn, roomFor}
 use Rattle.stream.specs.declared.state.Phase.the-variants.{NotWritten}
 use Rattle.stream.specs.declared.state.State.{State}
 use Rattle.stream.specs.declared.state.Got.{Got}
@@ -50,33 +47,33 @@ readIn End behind = ended
 readIn Interrupted behind = interrupted
 readIn Failed behind = failed
 
--- a buffer of this length has the bytes held over and those that came, and the lines of their whole records, numbered from `next` on,
--- and the last lines fit a text of this length
-abbrev pub fits : ℕ → ℕ → ℕ → ℕ → ℕ → Bool
-fits held count next buffer text = leb (held + count) buffer && linesFit next ((held + count) / size) text && leb endRoom text
+-- a buffer of this length has the bytes held over and those that came, and a text of this length the room for what is written of them,
+-- where the first record among them has the number `next`
+abbrev pub fits : Job → ℕ → ℕ → ℕ → ℕ → ℕ → Bool
+fits job held count next buffer text = leb (held + count) buffer && roomFor job next (held + count) text
 
 -- where they do not, the read counts as one that failed
-abbrev pub withRoom : Got → State → ℕ → ℕ → Got
-withRoom got state buffer text = cond (fits (state .held) (bytesOf got) (state .next) buffer text) got Failed
+abbrev pub withRoom : Job → Got → State → ℕ → ℕ → Got
+withRoom job got state buffer text = cond (fits job (state .held) (bytesOf got) (state .next) buffer text) got Failed
 
 -- how many bytes are held over after a read
-abbrev pub heldAfter : ℕ → Read → ℕ
-heldAfter held (came b) = (held + length b) % size
-heldAfter held ended = held
-heldAfter held interrupted = held
-heldAfter held failed = held
+abbrev pub heldAfter : Job → ℕ → Read → ℕ
+heldAfter job held (came b) = waitingIn job (held + length b)
+heldAfter job held ended = held
+heldAfter job held interrupted = held
+heldAfter job held failed = held
 
 -- what follows a read: where the run stands, what the buffer and the text become, and how much is to be written
 pub record FollowsBy (job : Job) (state : State) (read : Read) (buffer text : List ℕ) (r : Step) (buffer′ text′ : List ℕ) : Type 0 where
   pub stands : standing (r .state) buffer′ ≡ afterRead job (standing state buffer) read
-  pub held : r .state .held ≡ heldAfter (state .held) read
+  pub held : r .state .held ≡ heldAfter job (state .held) read
   pub left-over : buffer′ ≡ putFront buffer (afterRead job (standing state buffer) read .rest)
   pub offers : Put text 0 (offered job (standing state buffer) read) (r .offered) text′
 
 -- by what the read came to, with room or without
 abbrev pub Follows : Job → State → Got → List ℕ → List ℕ → Step → List ℕ → List ℕ → Type 0
 Follows job state got buffer text =
-    FollowsBy job state (readIn (withRoom got state (length buffer) (length text)) (drop (state .held) buffer)) buffer text
+    FollowsBy job state (readIn (withRoom job got state (length buffer) (length text)) (drop (state .held) buffer)) buffer text
 
 -- what follows a write
 abbrev pub writeAfter : Bool → State → State

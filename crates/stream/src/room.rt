@@ -3,17 +3,15 @@ ghost use mathlib.Core.Path.{_≡_};
 ghost use Rattle.stream.specs.Step.{fits, bytesOf, withRoom};
 use super::state::Got;
 use super::state::State;
-use lines::CLOSING_ROOM;
-use lines::LINE_ROOM;
-use record::SIZE;
-use report::lines_fit;
+use jobs::Job;
+use jobs::has_room;
 
 // What a read came to, by the lengths of the buffer and of the text: where it does not fit them, a read that failed.
-pub(crate) fn with_room(got: Got, state: State, buffer: usize, text: usize) -> Got
-    ensures { λ r. ⌜ r ≡ withRoom got state buffer text ⌝ }
+pub(crate) fn with_room(job: Job, got: Got, state: State, buffer: usize, text: usize) -> Got
+    ensures { λ r. ⌜ r ≡ withRoom job got state buffer text ⌝ }
 {
     let count = bytes_in(got);
-    if has_room(state.held, count, state.next, buffer, text) {
+    if both_fit(job, state.held, count, state.next, buffer, text) {
         got
     } else {
         Got::Failed
@@ -32,9 +30,9 @@ fn bytes_in(got: Got) -> usize
     }
 }
 
-// Whether the buffer has all bytes, and the lines of their whole records and the last lines fit the text.
-fn has_room(held: usize, count: usize, next: u64, buffer: usize, text: usize) -> bool
-    ensures { λ r. ⌜ r ≡ fits held count next buffer text ⌝ }
+// Whether the buffer has all bytes, and the text the room for what is written of them.
+fn both_fit(job: Job, held: usize, count: usize, next: u64, buffer: usize, text: usize) -> bool
+    ensures { λ r. ⌜ r ≡ fits job held count next buffer text ⌝ }
 {
     if buffer < held {
         return false;
@@ -42,8 +40,5 @@ fn has_room(held: usize, count: usize, next: u64, buffer: usize, text: usize) ->
     if buffer - held < count {
         return false;
     }
-    if !lines_fit(next, (held + count) / SIZE, text) {
-        return false;
-    }
-    text >= LINE_ROOM + CLOSING_ROOM
+    has_room(job, next, held + count, text)
 }

@@ -11,6 +11,7 @@ pub enum Phase {
     NotStarted,
     NotRead,
     NotWritten,
+    TooLong,
 }
 
 // The session, the number of the next record, how many bytes are held over at the front of the buffer, and the phase.

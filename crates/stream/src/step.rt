@@ -1,10 +1,10 @@
 // What follows a read and what follows a write: functions of the state and the buffers alone.
 ghost use mathlib.Core.Path.{_≡_};
 ghost use mathlib.Core.Bool.{true};
-ghost use Prim.Native.Nat.{_/_, _≤_};
+ghost use Prim.Native.Nat.{_≤_};
 ghost use lib.ListN.{length};
-ghost use Rattle.record.specs.Record.{size};
-ghost use Rattle.report.specs.Block.{linesFit};
+ghost use Rattle.jobs.specs.Job.{roomFor};
+ghost use Rattle.stream.specs.Run.{phaseWith};
 ghost use Rattle.stream.specs.Step.{Follows, writeAfter};
 ghost use Rattle.stream.specs.Inside.{countOf, Ready, FollowsIn, TakesIn};
 use super::front::move_to_front;
@@ -14,9 +14,11 @@ use super::state::Phase;
 use super::state::State;
 use jobs::Job;
 use jobs::finish;
+use jobs::takes;
+use jobs::waiting;
 use jobs::work;
+use jobs::worked;
 use lines::Text;
-use record::SIZE;
 
 // The state after a read, and how many bytes of the text are to be written.
 pub struct Step {
@@ -29,13 +31,13 @@ pub struct Step {
 pub fn after_read(job: Job, state: State, got: Got, buffer: &mut [u8], text: &mut [u8]) -> Step
     ensures { λ r. ⌜ Follows job state got (now (buffer .entry)) (now (text .entry)) r (now (buffer .exit)) (now (text .exit)) ⌝ }
 {
-    let read = with_room(got, state, buffer.len(), text.len());
+    let read = with_room(job, got, state, buffer.len(), text.len());
     follow(job, state, read, buffer, text)
 }
 
 // The same, where they do.
 fn follow(job: Job, state: State, got: Got, buffer: &mut [u8], text: &mut [u8]) -> Step
-    requires { ⌜ Ready got state (length (now buffer)) (length (now text)) ⌝ }
+    requires { ⌜ Ready job got state (length (now buffer)) (length (now text)) ⌝ }
     ensures { λ r. ⌜ FollowsIn job state got (now (buffer .entry)) (now (text .entry)) r (now (buffer .exit)) (now (text .exit)) ⌝ }
 {
     let session = state.session;
@@ -68,9 +70,9 @@ fn follow(job: Job, state: State, got: Got, buffer: &mut [u8], text: &mut [u8]) 
     }
 }
 
-// Works on the whole records among the first `total` bytes of the buffer, and holds over those behind them.
+// Works on the first `total` bytes of the buffer, and holds over those that wait.
 fn take_in(job: Job, state: State, total: usize, buffer: &mut [u8], text: &mut [u8]) -> Step
-    requires { ⌜ (total ≤ length (now buffer)) × (linesFit (state .next) (total / size) (length (now text)) ≡ true) ⌝ }
+    requires { ⌜ (total ≤ length (now buffer)) × (roomFor job (state .next) total (length (now text)) ≡ true) ⌝ }
     ensures { λ r. ⌜ TakesIn job state total (now (buffer .entry)) (now (text .entry)) r (now (buffer .exit)) (now (text .exit)) ⌝ }
 {
     let session = state.session;
@@ -78,16 +80,27 @@ fn take_in(job: Job, state: State, total: usize, buffer: &mut [u8], text: &mut [
     let block = work(job, session, next, &buffer[..total], text);
     let after = block.session;
     let lines = block.text;
-    let held = total % SIZE;
+    let held = waiting(job, total);
     move_to_front(buffer, total - held, total);
     Step {
         state: State {
             session: after,
-            next: next + (total / SIZE) as u64,
+            next: next + worked(job, total) as u64,
             held,
-            phase: Phase::Reading,
+            phase: phase_with(job, total),
         },
         offered: count(lines),
+    }
+}
+
+// The phase after a read, with this many bytes: a job that does not take so many stops.
+fn phase_with(job: Job, total: usize) -> Phase
+    ensures { λ r. ⌜ r ≡ phaseWith job total ⌝ }
+{
+    if takes(job, total) {
+        Phase::Reading
+    } else {
+        Phase::TooLong
     }
 }
 

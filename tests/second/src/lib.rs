@@ -1,4 +1,4 @@
-//! Document 01's rules and document 02's orders 1, 2, 3, 5 and 6 once more, with no code of the product, and inputs for them:
+//! Document 01's rules and document 02's orders 1, 2, 3, 5, 6 and 7 once more, with no code of the product, and inputs for them:
 //! at every edge, and at random from a seed.
 pub mod arcminutes;
 pub mod edges;
@@ -30,10 +30,14 @@ pub mod text_cases;
 pub mod text_random;
 pub mod text_request;
 pub mod text_requests;
+pub mod torn;
+pub mod torn_cases;
+pub mod torn_random;
+pub mod torn_sorts;
 pub mod wide;
 
 /// Stops where the second program has something else than the documents' table and record, another half-width of kinds 3 and 4,
-/// another side's refusal, another sine, another text, or another note.
+/// another side's refusal, another sine, another text, another note, or takes something else of a torn file.
 pub fn check() {
     sine::check();
     table::check();
@@ -43,4 +47,5 @@ pub fn check() {
     text::check();
     note::check();
     note_cases::check();
+    torn::check();
 }

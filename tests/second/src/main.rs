@@ -1,11 +1,11 @@
-//! The second program: document 01's rules and document 02's orders 1, 2, 3, 5 and 6 once more, with no code of the product.
+//! The second program: document 01's rules and document 02's orders 1, 2, 3, 5, 6 and 7 once more, with no code of the product.
 //! `second requests` writes requests for the program `query`, and `second answers` reads such requests and writes what is to
 //! be answered. `second random SEED ROUNDS` writes more requests on floats than the stored ones.
 //!
-//! `second convert` and `second reproject` do what the programs of these names do. `second records` and `second old-records`
-//! write their stored inputs; `second refusals`, `second retired` and `second stations` those of small runs, the last from lines
-//! of text, and `second old-stations` the same stations on the old rows. `second random-records SEED COUNT` writes more
-//! records than the stored ones.
+//! `second convert`, `second reproject` and `second salvage` do what the programs of these names do. `second records`, `second
+//! old-records` and `second torn-records` write their stored inputs; `second refusals`, `second retired`, `second disguised` and
+//! `second stations` those of small runs, the last from lines of text, `second old-stations` the same stations on the old rows, and
+//! `second torn-stations` a damaged file of them. `second random-records SEED COUNT` writes more records than the stored ones.
 use second::map::Answer;
 use second::note_request::NoteRequest;
 use second::record_cases::joined;
@@ -14,7 +14,7 @@ use second::requests::texts;
 use second::table::{old_row_of, row_of};
 use second::text_request::TextRequest;
 use second::{float_random, record_cases, record_random, requests, session, stations};
-use second::{reproject, reproject_cases};
+use second::{reproject, reproject_cases, torn, torn_cases};
 use std::io::{self, Read, Write};
 
 fn main() -> io::Result<()> {
@@ -35,12 +35,22 @@ fn main() -> io::Result<()> {
         }
         ["convert"] => session::convert(io::stdin().lock(), out),
         ["reproject"] => reproject::reproject(io::stdin().lock(), out),
+        ["salvage"] => {
+            let mut input = Vec::new();
+            io::stdin().read_to_end(&mut input)?;
+            let (written, said) = torn::program(&input);
+            out.write_all(&written)?;
+            io::stderr().write_all(said.as_bytes())
+        }
         ["records"] => out.write_all(&record_cases::all()),
         ["old-records"] => out.write_all(&reproject_cases::all()),
+        ["torn-records"] => out.write_all(&torn_cases::all()),
         ["refusals"] => out.write_all(&joined(&record_cases::refusals())),
         ["retired"] => out.write_all(&joined(&reproject_cases::retired())),
+        ["disguised"] => out.write_all(&torn_cases::all_disguised()),
         ["stations"] => out.write_all(&stations_on(row_of)?),
         ["old-stations"] => out.write_all(&stations_on(old_row_of)?),
+        ["torn-stations"] => out.write_all(&torn_cases::torn(stations_on(row_of)?)),
         ["random-records", seed, count] => {
             let [seed, count] = [seed, count].map(|word| word.parse().expect("a number"));
             record_random::write(seed, count, out)
@@ -49,6 +59,7 @@ fn main() -> io::Result<()> {
             eprintln!("second requests | answers | random SEED ROUNDS");
             eprintln!("second convert | records | refusals | stations | random-records SEED COUNT");
             eprintln!("second reproject | old-records | retired | old-stations");
+            eprintln!("second salvage | torn-records | disguised | torn-stations");
             std::process::exit(2)
         }
     }

@@ -40,6 +40,7 @@ use Rattle.record.specs.Record.{kindIn, formIn, centralIn, firstIn, secondIn}
 use Rattle.record.specs.Answer.{pairOrder, pairOf, convertOrder, convertOf, outputAfter}
 use Rattle.note.specs.Note.{narrow, noteOf, countsIn}
 use Rattle.note.specs.Answer.{writeOrder as saveOrder, readOrder as restoreOrder, writtenAs}
+use Rattle.torn.specs.Answer.{salvageOrder, countsOf, salvageOf}
 use Rattle.session.specs.Session.{feedOrder, feedOf}
 use Rattle.session.specs.Handover.{withCounts}
 use Rattle.session.proofs.Handovers.{restored-order}
@@ -73,9 +74,11 @@ use Rattle.claims.proofs.Events.{histories}
 use Rattle.claims.proofs.Notes.{notes}
 use Rattle.claims.proofs.Statuses.{interface}
 use Rattle.claims.proofs.Texts.{texts, text-examples}
+use Rattle.claims.proofs.Salvages.{salvages, salvage-examples}
 use Rattle.claims.proofs.Exchanges.{exchange, reprojection-examples}
 use Rattle.claims.proofs.Following.{reprojection}
 use Rattle.claims.proofs.ReprojectedRuns.{reprojected-runs}
+use Rattle.claims.proofs.SalvagedRuns.{salvaged-runs}
 use Rattle.claims.proofs.hold.Statement.{statement}
 use Rattle.claims.proofs.hold.Tie as tie
 
@@ -105,7 +108,7 @@ pair-numbers bytes = go (eqb (formIn bytes) 0) (kindIn bytes) (centralIn bytes) 
     go false kind c u v = refl
 
 refusals : Demand1
-unfolding widthOf forwardOf inverseOf forwardDegrees inverseDegrees convertOf feedOf outputAfter readText writeText writtenAs rows
+unfolding widthOf forwardOf inverseOf forwardDegrees inverseDegrees convertOf feedOf outputAfter readText writeText writtenAs salvageOf rows
 refusals =
     record {
       kinds = λ kind. (kind-range kind, kind-in kind);
@@ -125,6 +128,7 @@ refusals =
       save = λ session room.
           let counts : ℕ × ℕ = (session .moved, session .refused) in ordered (saveOrder narrow counts room) (noteOf narrow counts) refl;
       restore = λ note. rw (restored-order note) (ordered (restoreOrder narrow note) (withCounts (countsIn narrow note)) refl);
+      salvage = λ input records list. ordered (salvageOrder input records list) (countsOf input) refl;
       output-kept = λ input output n. refl;
     }
 
@@ -199,7 +203,7 @@ arithmetic =
 
 returns : tie.Need-returns
 returns c =
-    (demands, edges, turned-places, sharp, worked, record-example, arithmetic, house-sine, cosine-kinds, written, printing, interface, texts, text-examples, notes, exchange, reprojection, reprojection-examples, reprojected-runs)
+    (demands, edges, turned-places, sharp, worked, record-example, arithmetic, house-sine, cosine-kinds, written, printing, interface, texts, text-examples, notes, salvages, salvage-examples, exchange, reprojection, reprojection-examples, reprojected-runs, salvaged-runs)
 
 pub hold-spec : {M : Type 1} → statement M
 hold-spec = tie.close (tie.spec returns)

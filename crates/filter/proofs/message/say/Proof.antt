@@ -8,7 +8,7 @@ use Rattle.lines.proofs.Buffers.{counted-le}
 use Rattle.filter.proofs.message.say.Statement.{statement}
 use Rattle.filter.proofs.message.say.Tie as tie
 
-there : (c : tie.After-said) → c .said .given .0 .0 ≤ length (c .before .before .before .before .message .last .1 .1 .0)
+there : (c : tie.After-said) → c .said .given .0 .0 ≤ length (c .before .before .before .before .message .last .1 .1 .1 .0)
 there c = counted-le _ (c .before .before .before .before .message .ensures) (c .said .given .1)
 
 pub say-spec : {M : Type 1} → statement M

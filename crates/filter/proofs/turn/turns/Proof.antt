@@ -4,13 +4,13 @@ use mathlib.Core.List.{[], _∷_}
 use Prim.Native.Nat.{ℕ, _+_, _-_, _*_, _/_, _≤_, _<_}
 use native.Mathlib.Omega.{arith}
 use borrow.Author.Needs.{needs}
-use Rattle.record.specs.Record.{size}
+use lib.ListN.{length}
 use Rattle.report.specs.Block.{mostNumber}
 use Rattle.report.specs.Program.{firstNumber}
 use Rattle.stream.specs.declared.state.Phase.the-variants.{Reading}
 use Rattle.stream.specs.Run.{Turn, standingOf}
 use Rattle.stream.specs.Step.{gotOf, readIn, standing}
-use Rattle.filter.specs.Turns.{records, Room, Reached}
+use Rattle.filter.specs.Turns.{records, heldMost, Room, Reached}
 use Rattle.filter.proofs.Turns.{falls, still, left-at, left-le, goes-on}
 use Rattle.filter.proofs.turn.turns.Statement.{statement}
 use Rattle.filter.proofs.turn.turns.Tie as tie
@@ -21,8 +21,8 @@ limit = (mostNumber - firstNumber) / records
 
 abbrev Inv-loop : tie.InvT-loop
 Inv-loop job arguments buffer₀ text₀ state₀ left₀ buffer text state left =
-    Room buffer text × (state .held < size) × Reached job arguments (standing state buffer) left × (0 < left → state .phase ≡ Reading)
-    × (state .next + records * left ≤ mostNumber)
+    Room buffer text × (state .phase ≡ Reading → state .held ≤ heldMost job) × Reached job arguments (standing state buffer) left
+    × (0 < left → state .phase ≡ Reading) × (state .next + records * left ≤ mostNumber) × (state .held ≤ length buffer)
 
 abbrev μ-loop : tie.MeasureT-loop
 μ-loop job arguments buffer₀ text₀ state₀ left₀ buffer text state left = left
@@ -33,7 +33,7 @@ loop-holds c =
     let phase = c .before .before .phase-at-start .result in
     rw (c .left-in .ensures) (
       c .before .before .before .before .before .pre,
-      omega arith,
+      (λ e. omega arith),
       record {
         turns = [];
         stands = rw (c .before .«open» .ensures, c .before .before .phase-at-start .ensures);
@@ -41,13 +41,14 @@ loop-holds c =
       },
       still phase limit,
       omega (arith, left-le phase limit),
+      omega arith,
     )
 
 -- the numbers of the records of one more read have 64 bits
 turn-requires : tie.Need-turn-requires Inv-loop μ-loop
 turn-requires c κs =
     let l = c .before .before .before .loop in
-    (l .inv .0, l .inv .1, omega (arith, l .inv .4, c .before .before .loop-test .taken))
+    (l .inv .0, l .inv .1 (l .inv .3 (c .before .before .loop-test .taken)), omega (arith, l .inv .4, c .before .before .loop-test .taken))
 
 loop-less : tie.Need-loop-less Inv-loop μ-loop
 loop-less c =
@@ -77,6 +78,7 @@ loop-again c =
       },
       still (r .state .phase) (l .left - 1),
       omega (arith, by .numbered, l .inv .4, left-le (r .state .phase) (l .left - 1)),
+      by .inside,
     )
 
 same-length : tie.Need-same-length Inv-loop μ-loop
@@ -86,7 +88,7 @@ same-length-2 : tie.Need-same-length-2 Inv-loop μ-loop
 same-length-2 c = c .before .loop .inv .0 .lines ∙ sym (c .before .before .before .before .before .before .before .pre .lines)
 
 returns : tie.Need-returns Inv-loop μ-loop
-returns c = let z : c .before .loop .left ≡ 0 = omega arith in rw z at (c .before .loop .inv .2)
+returns c = let z : c .before .loop .left ≡ 0 = omega arith in (rw z at (c .before .loop .inv .2), c .before .loop .inv .5)
 
 pub turns-spec : {M : Type 1} → statement M
 turns-spec =

@@ -8,7 +8,8 @@ use borrow.Author.Needs.{needs}
 use denote.Ref.{now}
 use lib.ListN.{length, take, drop, getD, set, length-set, length-drop}
 use lib.Seq.{length-take-le, drop-cons, getD-append-add, getD-drop, getD-take, set-at, append-snoc, take-suc, take-all}
-use Rattle.lines.specs.Buffer.{putFront}
+use Rattle.digits.specs.Put.{putFront}
+use Rattle.digits.proofs.Puts.{front-same}
 use Rattle.stream.proofs.front.move_to_front.Statement.{statement}
 use Rattle.stream.proofs.front.move_to_front.Tie as tie
 
@@ -73,12 +74,19 @@ module _ (l : List ℕ) (from to : ℕ) (h : to ≤ length l) where
       let n : length (moving l from to) ≡ i = omega arith in
       rw (take-all i (moving l from to) (omega arith), n)
 
+-- nothing moves
+returns : tie.Need-returns Inv-loop μ-loop
+returns c =
+    let a = c .before .args in
+    let e : a .from ≡ 0 = c .if1 .taken in
+    rw e (front-same (now (a .buffer)) (a .to))
+
 loop-holds : tie.Need-loop-holds Inv-loop μ-loop
-loop-holds c = record { source = omega arith; passed = c .pre .0; room = c .pre .1; size = refl; is = refl }
+loop-holds c = record { source = omega arith; passed = c .before .pre .0; room = c .before .pre .1; size = refl; is = refl }
 
 loop-again : tie.Need-loop-again Inv-loop μ-loop
 loop-again c =
-    let a = c .before .before .before .args in
+    let a = c .before .before .before .before .args in
     let l = c .before .before .loop in
     let s = l .inv in
     let b : a .from + l .i < a .to = omega arith in
@@ -92,9 +100,9 @@ loop-again c =
           ∙ step (now (a .buffer)) (a .from) (a .to) (s .room) (l .i) b;
     }
 
-returns : tie.Need-returns Inv-loop μ-loop
-returns c =
-    let a = c .before .before .args in
+returns-2 : tie.Need-returns-2 Inv-loop μ-loop
+returns-2 c =
+    let a = c .before .before .before .args in
     let l = c .before .loop in
     let s = l .inv in
     let e : a .from + l .i ≡ a .to = omega arith in
@@ -106,6 +114,7 @@ move-to-front-spec =
     (tie.spec
     Inv-loop
     μ-loop
+    returns
     loop-holds
     (λ c. search needs)
     (λ c. search needs)
@@ -114,4 +123,4 @@ move-to-front-spec =
     (λ c. search needs)
     loop-again
     (λ c. search needs)
-    returns)
+    returns-2)

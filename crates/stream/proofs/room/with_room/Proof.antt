@@ -5,9 +5,9 @@ use Rattle.stream.specs.Step.{bytesOf, fits}
 use Rattle.stream.proofs.room.with_room.Statement.{statement}
 use Rattle.stream.proofs.room.with_room.Tie as tie
 
-answered : (c : tie.After-has-room) → let a = c .before .before .args in
-    c .has-room .result ≡ fits (a .state .held) (bytesOf (a .got)) (a .state .next) (a .buffer) (a .text)
-answered c = c .has-room .ensures ∙ rw (c .before .bytes-in .ensures)
+answered : (c : tie.After-both-fit) → let a = c .before .before .args in
+    c .both-fit .result ≡ fits (a .job) (a .state .held) (bytesOf (a .got)) (a .state .next) (a .buffer) (a .text)
+answered c = c .both-fit .ensures ∙ rw (c .before .bytes-in .ensures)
 
 returns : tie.Need-returns
 returns c = rw (sym (answered (c .before)) ∙ c .if1 .taken)

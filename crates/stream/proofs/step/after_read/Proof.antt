@@ -10,7 +10,7 @@ follow-requires : tie.Need-follow-requires
 follow-requires c κs =
     let room = c .before .before .with-room in
     let a = c .before .before .before .before .before .args in
-    rw (room .ensures) (ready (a .got) (a .state) (length (now (a .buffer))) (length (now (a .text))))
+    rw (room .ensures) (ready (a .job) (a .got) (a .state) (length (now (a .buffer))) (length (now (a .text))))
 
 returns : tie.Need-returns
 returns c =

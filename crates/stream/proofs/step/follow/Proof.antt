@@ -1,18 +1,15 @@
 -- `stream::step::follow` meets its contract.
 use mathlib.Core.Bool.{true}
 use mathlib.Core.Path.{_≡_, sym, subst}
-use Prim.Native.Nat.{_+_, _*_, _/_, _≤_}
+use Prim.Native.Nat.{_+_}
 use native.Mathlib.Omega.{arith}
 use borrow.Author.Needs.{needs}
 use denote.Ref.{now}
 use lib.ListN.{length, take}
 use lib.Seq.{length-take-le}
-use Rattle.record.specs.Record.{size}
-use Rattle.lines.specs.Line.{lineRoom}
-use Rattle.report.specs.Block.{linesFit}
-use Rattle.report.specs.Program.{endRoom}
+use Rattle.jobs.specs.Job.{roomFor}
 use Rattle.stream.specs.declared.state.Got.{Got}
-use Rattle.stream.specs.Inside.{Ready}
+use Rattle.stream.specs.Inside.{HasRoom, Ready}
 use Rattle.stream.proofs.Works.{finished}
 use Rattle.stream.proofs.Steps.{follows-bytes, follows-end, follows-interrupted, follows-failed}
 use Rattle.stream.proofs.step.follow.Statement.{statement}
@@ -23,15 +20,17 @@ module _ (c : tie.After-got) where
   abbrev s : tie.Start
   s = c .before .before .before .before .before
 
-  ready : (s .args .state .held + c .got .given .0 .0 ≤ length (now (s .args .buffer)))
-      × (linesFit (s .args .state .next) ((s .args .state .held + c .got .given .0 .0) / size) (length (now (s .args .text))) ≡ true)
-  ready = subst (λ (g : Got). Ready g (s .args .state) (length (now (s .args .buffer))) (length (now (s .args .text)))) (c .got .given .1) (s .pre)
+  ready : HasRoom (s .args .job) (s .args .state) (s .args .state .held + c .got .given .0 .0) (length (now (s .args .buffer))) (length (now (s .args .text)))
+  ready =
+      subst (λ (g : Got). Ready (s .args .job) g (s .args .state) (length (now (s .args .buffer))) (length (now (s .args .text))))
+      (c .got .given .1) (s .pre)
 
-end-ready : (c : tie.After-enum-told) → let s = c .before .before .before .before .before in
-    (s .args .state .held ≤ length (now (s .args .buffer))) × (lineRoom * (s .args .state .held / size) ≤ length (now (s .args .text))) × (endRoom ≤ length (now (s .args .text)))
+end-ready : (c : tie.After-enum-told) → let a = c .before .before .before .before .before .args in
+    HasRoom (a .job) (a .state) (a .state .held) (length (now (a .buffer))) (length (now (a .text)))
 end-ready c =
     let s = c .before .before .before .before .before in
-    subst (λ (g : Got). Ready g (s .args .state) (length (now (s .args .buffer))) (length (now (s .args .text)))) (c .enum-told .given .1) (s .pre)
+    let a = s .args in
+    subst (λ (g : Got). Ready (a .job) g (a .state) (length (now (a .buffer))) (length (now (a .text)))) (c .enum-told .given .1) (s .pre)
 
 take-in-requires : tie.Need-take-in-requires
 take-in-requires c κs =
@@ -53,10 +52,11 @@ returns-2 c =
     let a = told .before .before .before .before .before .args in
     let r = end-ready told in
     let rest = take (a .state .held) (now (a .buffer)) in
-    let room : lineRoom * (length rest / size) ≤ length (now (a .text)) = rw (length-take-le (a .state .held) (now (a .buffer)) (r .0)) (r .1) in
+    let room : roomFor (a .job) (a .state .next) (length rest) (length (now (a .text))) ≡ true =
+    rw (length-take-le (a .state .held) (now (a .buffer)) (r .0)) (r .1) in
     rw (told .enum-told .given .1)
     (follows-end (a .job) (a .state) (now (a .buffer)) (now (a .text)) (c .count .result) (ending .last .1 .1 .1 .1 .0)
-    (finished (a .job) (a .state .session) (a .state .next) rest (now (a .text)) (ending .last .1 .1 .1 .1 .0) (ending .result) (c .count .result) room (r .2)
+    (finished (a .job) (a .state .session) (a .state .next) rest (now (a .text)) (ending .last .1 .1 .1 .1 .0) (ending .result) (c .count .result) room
     (ending .ensures) (c .count .ensures)))
 
 returns-3 : tie.Need-returns-3

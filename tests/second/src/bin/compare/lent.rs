@@ -40,8 +40,24 @@ impl Piece {
         self.memory[self.at..self.at + self.length].copy_from_slice(bytes);
     }
 
+    /// Writes over the first bytes of the piece.
+    pub fn put_front(&mut self, bytes: &[u8]) {
+        self.memory[self.at..self.at + self.length][..bytes.len()].copy_from_slice(bytes);
+    }
+
     pub fn lend(&mut self) -> (*mut u8, usize) {
         (self.memory.as_mut_ptr().wrapping_add(self.at), self.length)
+    }
+
+    /// Where the memory is another one than there, from the piece's first byte on, and what stands there in both: for pieces that
+    /// are too long to be shown.
+    pub fn unlike(&self, other: &Piece) -> Option<String> {
+        let mut both = self.memory.iter().zip(&other.memory);
+        let at = both.position(|(here, there)| here != there)?;
+        let shown = |piece: &Piece| hex(&piece.memory[at..piece.memory.len().min(at + 24)]);
+        let (here, there) = (shown(self), shown(other));
+        let place = at as isize - self.at as isize;
+        Some(format!("at {place} {here}, should be {there}"))
     }
 }
 
@@ -54,7 +70,7 @@ impl fmt::Display for Piece {
     }
 }
 
-fn hex(bytes: &[u8]) -> String {
+pub fn hex(bytes: &[u8]) -> String {
     bytes.iter().map(|byte| format!("{byte:02x}")).collect()
 }
 

@@ -37,6 +37,15 @@ extern "C" {
     fn uldaseong_read_text(text: *const u8, text_length: usize, position: *mut i32) -> u8;
     fn uldaseong_write_text(longitude: i32, latitude: i32, text: *mut u8, text_length: usize)
         -> u8;
+    fn uldaseong_salvage(
+        input: *const u8,
+        input_length: usize,
+        records: *mut u8,
+        records_length: usize,
+        runs: *mut u8,
+        runs_length: usize,
+        counts: *mut u64,
+    ) -> u8;
 }
 
 /// The two words between the first and the last of four.
@@ -93,4 +102,22 @@ pub fn read_text(text: &mut Piece, lent: &mut [i32; 4]) -> u8 {
 pub fn write_text([longitude, latitude]: [i32; 2], text: &mut Piece) -> u8 {
     let (text, text_length) = text.lend();
     unsafe { uldaseong_write_text(longitude, latitude, text, text_length) }
+}
+
+/// The pieces are the input, the records and the list of runs.
+pub fn salvage(pieces: &mut [Piece; 3], counts: &mut [u64; 4]) -> u8 {
+    let [(input, input_length), (records, records_length), (runs, runs_length)] =
+        pieces.each_mut().map(Piece::lend);
+    let counts = middle(counts);
+    unsafe {
+        uldaseong_salvage(
+            input,
+            input_length,
+            records,
+            records_length,
+            runs,
+            runs_length,
+            counts,
+        )
+    }
 }

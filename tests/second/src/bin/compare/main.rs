@@ -1,6 +1,6 @@
-//! Compares the library, through its C interface, and the programs `convert` and `reproject` with the second program. `compare
-//! names` prints the names of the parts, one a line. `compare NAME SEED` runs a part, from the repository's root, and prints how
-//! many inputs it had; where something differs, it prints the first difference and its status is 1.
+//! Compares the library, through its C interface, and the programs `convert`, `reproject` and `salvage` with the second program.
+//! `compare names` prints the names of the parts, one a line. `compare NAME SEED` runs a part, from the repository's root, and
+//! prints how many inputs it had; where something differs, it prints the first difference and its status is 1.
 mod convert;
 mod floats;
 mod halves;
@@ -17,18 +17,22 @@ mod record_calls;
 mod record_inputs;
 mod records;
 mod reproject;
+mod salvage;
 mod sessions;
 mod text_calls;
 mod texts;
+mod torn_calls;
+mod torn_files;
 
 use part::Part;
 use second::reproject::{A_POSITION, OTHER_KIND};
+use second::torn_sorts::{AT_EDGES, AT_RANDOM};
 use std::process::ExitCode;
 
-/// A part's name, its comparison from a seed, and every number that is to be given: 0 and the refusals.
+/// A part's name, its comparison from a seed, and every number that is to be seen: 0, the refusals, and sorts of input.
 type Named = (&'static str, fn(&mut Part, u64), &'static [u8]);
 
-const PARTS: [Named; 20] = [
+const PARTS: [Named; 24] = [
     ("forward on numbers", numbers::forward, &[0, 1, 3, 4, 5]),
     ("inverse on numbers", numbers::inverse, &PLACES),
     ("numbers handed on", numbers::handed_on, &[0]),
@@ -47,8 +51,12 @@ const PARTS: [Named; 20] = [
     ("text written", texts::written, &[0, 4, 5, 12]),
     ("text read", texts::read, &[0, 4, 5, 12, 13, 14, 15]),
     ("text handed on", texts::handed_on, &[0]),
+    ("torn files at the edges", torn_files::edges, &AT_EDGES),
+    ("torn files at random", torn_files::drawn, &AT_RANDOM),
+    ("pieces for torn files", torn_files::pieces, &[0, 23, 24]),
     ("program convert", convert::compare, &UNCAPPED),
     ("program reproject", reproject::compare, &REPROJECTED),
+    ("program salvage", salvage::compare, &[0, 23]),
 ];
 
 /// What a call on a place gives, on numbers and on floats.

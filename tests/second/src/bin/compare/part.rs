@@ -34,6 +34,11 @@ impl Part {
         self.hold(difference);
     }
 
+    /// Takes in numbers that an input brought about beside the one that was given.
+    pub fn see(&mut self, numbers: &[u8]) {
+        self.given.extend(numbers);
+    }
+
     /// Takes in what else differs after calls, if anything does.
     pub fn hold(&mut self, difference: Option<String>) {
         if let Some(difference) = difference {

@@ -1,7 +1,7 @@
 //! Runs a program that was built. Its name is from the repository's root.
 use std::fs::{self, File, OpenOptions};
 use std::io::{self, Seek, Write};
-use std::process::{Child, Command, Stdio};
+use std::process::{Child, Command, Output, Stdio};
 use std::thread;
 
 /// Pieces of an input end inside a record, nearly all of them.
@@ -9,20 +9,30 @@ const PIECE: usize = 4_099;
 
 /// What a program writes for an input, which comes through a pipe, piece by piece.
 pub fn output(name: &str, input: &[u8]) -> Vec<u8> {
-    let mut program = started(name, Stdio::piped());
-    let mut pipe = program.stdin.take().expect("a pipe");
-    thread::scope(|scope| {
-        // a program that stops reading writes too little, and that is seen
-        let mut pieces = input.chunks(PIECE);
-        scope.spawn(move || pieces.try_for_each(|bytes| pipe.write_all(bytes)));
-        written(name, program)
-    })
+    written(name, run_on_pieces(name, input.chunks(PIECE)))
 }
 
 /// What it writes for an input that comes from a file, so that each read is as long as it may be.
 pub fn output_from_file(name: &str, input: &[u8]) -> Vec<u8> {
+    written(name, run_on_file(name, input))
+}
+
+/// All that it writes and says for an input that comes through a pipe in these pieces.
+pub fn run_on_pieces<'a>(name: &str, pieces: impl Iterator<Item = &'a [u8]> + Send) -> Output {
+    let mut program = started(name, Stdio::piped());
+    let mut pipe = program.stdin.take().expect("a pipe");
+    thread::scope(|scope| {
+        // a program that stops reading writes too little, and that is seen
+        let mut pieces = pieces;
+        scope.spawn(move || pieces.try_for_each(|bytes| pipe.write_all(bytes)));
+        ended(program)
+    })
+}
+
+/// The same for one that comes from a file.
+pub fn run_on_file(name: &str, input: &[u8]) -> Output {
     let file = file(input).unwrap_or_else(|error| panic!("a file for an input: {error}"));
-    written(name, started(name, file.into()))
+    ended(started(name, file.into()))
 }
 
 /// A file of these bytes, to be read from its beginning. It has no name any more, so that none is left behind.
@@ -47,9 +57,12 @@ fn started(name: &str, input: Stdio) -> Child {
     program.unwrap_or_else(|error| panic!("{name}: {error}"))
 }
 
-/// All that it writes until it ends, which is to be well.
-fn written(name: &str, program: Child) -> Vec<u8> {
-    let output = program.wait_with_output().expect("a program that ends");
+fn ended(program: Child) -> Output {
+    program.wait_with_output().expect("a program that ends")
+}
+
+/// What a program wrote that is to have ended well, with nothing said.
+fn written(name: &str, output: Output) -> Vec<u8> {
     let said = String::from_utf8_lossy(&output.stderr);
     let well = output.status.success() && said.is_empty();
     assert!(well, "{name}: {}, it said {said:?}", output.status);

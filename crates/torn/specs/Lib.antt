@@ -1,0 +1,5 @@
+pub mod Parts
+pub mod Pieces
+pub mod Refusal
+pub mod Answer
+pub mod Inside
