@@ -9,6 +9,7 @@ pub mod Wraps
 pub mod Returning
 pub mod Resending
 pub mod Sharpness
+pub mod Halves
 pub mod Sharing
 pub mod Calls
 pub mod Small

@@ -31,7 +31,7 @@ use Rattle.claims.specs.Printing.{west, Printing}
 
 -- ---- the worked record, and a place one unit west of its row
 
-record-answer : convertOf input 16 ≡ given (pos 157079633, pos 78539816)
+record-answer : convertOf input 16 ≡ given (pos 157079632, pos 78539816)
 unfolding convertOf unless pairOrder pairOf numberAt isKind placeOf xOf yOf height wrap rowOf rows halfWidth numerator oneOf oneBy qAt radicand qBy nearest carry
 record-answer = refl
 
@@ -48,7 +48,7 @@ west-answer = refl
 abbrev after : ℕ → Session
 after moved = record { moved = moved; refused = 0 }
 
-moved-in : (n : ℕ) → isFull (after n) ≡ false → feedOf (after n) input 16 ≡ given (pos 157079633, pos 78539816)
+moved-in : (n : ℕ) → isFull (after n) ≡ false → feedOf (after n) input 16 ≡ given (pos 157079632, pos 78539816)
 moved-in n e = sym (fed (after n) input 16 e) ∙ record-answer
 
 refused-in : (n : ℕ) → isFull (after n) ≡ false → feedOf (after n) west 16 ≡ refused 17

@@ -39,7 +39,7 @@ pub record CosineKinds : Type 0 where
   pub eckert-ky : NearestFactor (rowOf 12 .ky)
   pub eckert : (p : ℕ) → halfWidth (rowOf 12) p ≡ nearest (277096497 * (1000000000 + cosineOf p)) 2000000000
   -- worked, as P1 to P12 are; the pole of kind 11 is a point
-  pub sinusoidal-widths : widthsOf 11 ≡ 314159265 ∷ 272069904 ∷ 222144147 ∷ 157079633 ∷ 97080552 ∷ 5482835 ∷ 0 ∷ []
-  pub eckert-widths : widthsOf 12 ≡ 277096497 ∷ 258534551 ∷ 236516655 ∷ 207822373 ∷ 181362012 ∷ 140966249 ∷ 138548249 ∷ []
-  pub pole-accepted : inverseOf 11 (pos 0) (pos 0) (pos 157079633) ≡ given (pos 0, pos 32400000)
-  pub pole-refused : inverseOf 11 (pos 0) (pos 1) (pos 157079633) ≡ refused 7
+  pub sinusoidal-widths : widthsOf 11 ≡ 314159265 ∷ 272069904 ∷ 222144147 ∷ 157079632 ∷ 97080552 ∷ 5482835 ∷ 0 ∷ []
+  pub eckert-widths : widthsOf 12 ≡ 277096497 ∷ 258534551 ∷ 236516655 ∷ 207822373 ∷ 181362012 ∷ 140966249 ∷ 138548248 ∷ []
+  pub pole-accepted : inverseOf 11 (pos 0) (pos 0) (pos 157079632) ≡ given (pos 0, pos 32400000)
+  pub pole-refused : inverseOf 11 (pos 0) (pos 1) (pos 157079632) ≡ refused 7

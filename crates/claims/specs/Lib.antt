@@ -13,6 +13,7 @@ pub mod RecordExample
 pub mod Printing
 pub mod Interface
 pub mod Arithmetic
+pub mod Halves
 pub mod ExactRoot
 pub mod HouseSine
 pub mod CosineKinds

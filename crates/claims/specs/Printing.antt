@@ -17,9 +17,9 @@ use Rattle.jobs.specs.Job.{takesIn}
 use Rattle.stream.specs.Run.{RunsWrite, RunsEnd}
 use Rattle.claims.specs.RecordExample.{input}
 
--- "157079633 78539816" and "moved 1 refused 0", each with a line feed
+-- "157079632 78539816" and "moved 1 refused 0", each with a line feed
 abbrev pub pair : List ℕ
-pair = 49 ∷ 53 ∷ 55 ∷ 48 ∷ 55 ∷ 57 ∷ 54 ∷ 51 ∷ 51 ∷ 32 ∷ 55 ∷ 56 ∷ 53 ∷ 51 ∷ 57 ∷ 56 ∷ 49 ∷ 54 ∷ 10 ∷ []
+pair = 49 ∷ 53 ∷ 55 ∷ 48 ∷ 55 ∷ 57 ∷ 54 ∷ 51 ∷ 50 ∷ 32 ∷ 55 ∷ 56 ∷ 53 ∷ 51 ∷ 57 ∷ 56 ∷ 49 ∷ 54 ∷ 10 ∷ []
 
 abbrev pub movedOne : List ℕ
 movedOne = 109 ∷ 111 ∷ 118 ∷ 101 ∷ 100 ∷ 32 ∷ 49 ∷ 32 ∷ 114 ∷ 101 ∷ 102 ∷ 117 ∷ 115 ∷ 101 ∷ 100 ∷ 32 ∷ 48 ∷ 10 ∷ []

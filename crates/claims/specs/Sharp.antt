@@ -43,8 +43,8 @@ pub record Sharp : Type 0 where
   -- at a pole that is a point, 180 east comes back as the central meridian
   pub pole-moves : ForwardBack 7 (pos 0) (pos 64800000, pos 32400000) (pos 0, pos 125331414) (pos 0, pos 32400000)
   -- with a central meridian that is not 0, 180 west may come back as 180 east, and 180 east as 180 west
-  pub west-as-east : ForwardBack 1 (pos 3600000) (neg 64800000, pos 0) (pos 296705973, pos 0) (pos 64800000, pos 0)
-  pub east-as-west : ForwardBack 1 (neg 3600000) (pos 64800000, pos 0) (neg 296705973, pos 0) (neg 64800000, pos 0)
+  pub west-as-east : ForwardBack 1 (pos 3600000) (neg 64800000, pos 0) (pos 296705972, pos 0) (pos 64800000, pos 0)
+  pub east-as-west : ForwardBack 1 (neg 3600000) (pos 64800000, pos 0) (neg 296705972, pos 0) (neg 64800000, pos 0)
   -- a place may move by all of 2 units, on both axes
   pub moves-2 : BackForward 1 (pos 0) (pos 2, pos 2) (pos 0, pos 0) (pos 0, pos 0)
   pub moves-2-below : BackForward 1 (pos 0) (neg 2, neg 2) (pos 0, pos 0) (pos 0, pos 0)

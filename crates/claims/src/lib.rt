@@ -5,6 +5,7 @@ ghost use Rattle.claims.specs.Demands.{Demands};
 ghost use Rattle.claims.specs.Edges.{Edges};
 ghost use Rattle.claims.specs.Examples.{Examples};
 ghost use Rattle.claims.specs.Exchange.{Exchange};
+ghost use Rattle.claims.specs.Halves.{Halves};
 ghost use Rattle.claims.specs.HouseSine.{HouseSine};
 ghost use Rattle.claims.specs.Interface.{Interface};
 ghost use Rattle.claims.specs.Notes.{Notes};
@@ -24,5 +25,5 @@ ghost use Rattle.claims.specs.Written.{Written};
 
 // Does nothing. Its `ensures` is the product of all claims.
 pub fn hold()
-    ensures { λ _. ⌜ Demands × Edges × TurnedPlaces × Sharp × Examples × RecordExample × Arithmetic × HouseSine × CosineKinds × Written × Printing × Interface × Texts × TextExamples × Notes × Salvages × SalvageExamples × Exchange × Reprojection × ReprojectionExamples × ReprojectedRuns × SalvagedRuns ⌝ }
+    ensures { λ _. ⌜ Demands × Edges × TurnedPlaces × Sharp × Examples × RecordExample × Arithmetic × Halves × HouseSine × CosineKinds × Written × Printing × Interface × Texts × TextExamples × Notes × Salvages × SalvageExamples × Exchange × Reprojection × ReprojectionExamples × ReprojectedRuns × SalvagedRuns ⌝ }
 {}

@@ -27,7 +27,7 @@ movedWord = 109 ∷ 111 ∷ 118 ∷ 101 ∷ 100 ∷ space
 abbrev pub named : List ℕ → ℕ → List ℕ
 named word n = word ++ decimalOf n
 
--- the line of the answer to the record of this number: "157079633 78539816", or "refused 17 at 4"
+-- the line of the answer to the record of this number: "157079632 78539816", or "refused 17 at 4"
 unfoldable pub lineOf : ℕ → Outcome (ℤ × ℤ) → List ℕ
 lineOf number (given p) = numberText (p .0) ++ (space ++ (numberText (p .1) ++ lineFeed))
 lineOf number (refused n) = named refusedWord n ++ (named atWord number ++ lineFeed)

@@ -1,6 +1,7 @@
 // Whole numbers: rounding to the nearest, the floor of a square root, and a signed number as its sign and its size.
 ghost use mathlib.Core.Path.{_≡_};
-ghost use Rattle.whole.specs.Nearest.{nearest as nearestOf};
+ghost use Prim.Native.Nat.{_<_};
+ghost use Rattle.whole.specs.Nearest.{carry as carryOf, nearest as nearestOf};
 ghost use Rattle.whole.specs.Root.{root as rootOf};
 ghost use Rattle.whole.specs.Signed.{splitOf, joinOf, plus as plusOf, minus as minusOf};
 
@@ -12,8 +13,17 @@ pub fn nearest(n: u64, d: u64) -> u64
         return 0;
     }
     let q = n / d;
-    let r = n % d;
-    if d - r <= r { q + 1 } else { q }
+    q + carry(q, n % d, d)
+}
+
+// What is added to a quotient's floor q where r of d is left over. A half goes to the even neighbour, and only an even d has one: by
+// d / 2, a constant where d is one, a comparison is all that is left to do.
+fn carry(q: u64, r: u64, d: u64) -> u64
+    requires { ⌜ r < d ⌝ }
+    ensures { λ c. ⌜ c ≡ carryOf q r d ⌝ }
+{
+    let odd = if d % 2 == 0 { q % 2 } else { 0 };
+    if d / 2 < r + odd { 1 } else { 0 }
 }
 
 // The floor of the square root of n, by binary digits: shifts, sums, differences and comparisons alone. What was read of n so far is

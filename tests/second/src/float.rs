@@ -7,6 +7,15 @@ use crate::table::row_of;
 /// Hundredths of an arcsecond in a degree.
 const PER_DEGREE: i128 = 60 * 60 * 100;
 
+/// Stops where P12 is not as order 8 has it, or a float next to that half is not told from it.
+pub fn check() {
+    let half: f64 = 0.0078125;
+    let about = [half.next_down(), half, half.next_up()];
+    let read = |x: f64| [read(x, PER_DEGREE), read(-x, PER_DEGREE)];
+    let should = [[2812, -2812], [2812, -2812], [2813, -2813]];
+    assert_eq!(about.map(read), should, "P12");
+}
+
 /// The whole number nearest to x times `by`. From 2^52 up it is some number past every row, with x's sign.
 fn read(x: f64, by: i128) -> i128 {
     let field = (x.to_bits() >> 52) as i32 % 2048;

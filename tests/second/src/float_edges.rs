@@ -131,10 +131,10 @@ pub fn angle_halves(odd: &[u16]) -> Vec<Request> {
     requests
 }
 
-/// The whole number as it is, a little below and a little above a half more, and exactly a half more.
+/// The whole number as it is, and with a half more, a little less and a little more than that.
 fn about_half(n: i128) -> Vec<f64> {
     let n = n as f64;
-    vec![n, n + 0.49, (n + 0.5).next_down(), n + 0.5]
+    [&[n, n + 0.49][..], &about(n + 0.5)].concat()
 }
 
 /// Places about the edge of the row at some latitudes, the pole among them, on each side, and the north-eastern ones there and
@@ -160,11 +160,12 @@ fn edge_of_row(row: &Row, latitude: i128) -> Vec<(f64, f64)> {
     pairs(&about_half(w), &about_half(y))
 }
 
-/// Halves of a map unit, with the floats next to each, where the numbers on either side of the half have different answers.
+/// Halves of a map unit above even and odd numbers, with the floats next to each, where the numbers on either side of the half have
+/// different answers.
 pub fn place_halves() -> Vec<Request> {
     let mut requests = Vec::new();
     for kind in 1..=KINDS {
-        for start in [0, 1, 1_000_003, 40_000_000] {
+        for start in [0, 1, 1_000_003, 1_000_004, 40_000_000, 40_000_001] {
             let x = telling(start, |x| inverse(kind, 0, x, 70_000_000));
             for half in signed(&about(x as f64 + 0.5)) {
                 requests.push(place(kind, 0.0, half, 7e7));
@@ -178,9 +179,9 @@ pub fn place_halves() -> Vec<Request> {
     requests
 }
 
-/// The first whole number from `start` on whose answer is another than the next number's.
+/// The first whole number as even or odd as `start`, from there on, whose answer is another than the next number's.
 fn telling(start: i128, answer: impl Fn(i128) -> Answer) -> i128 {
-    let mut numbers = start..;
+    let mut numbers = (start..).step_by(2);
     let tells = |n: &i128| answer(*n) != answer(*n + 1);
     numbers.find(tells).expect("an endless list")
 }

@@ -64,7 +64,7 @@ fn document() -> Vec<Request> {
 /// decimal.
 const ODD: [&str; 47] = [
     // floats in upper case, with zeros before them and with few digits; all ones are a NaN
-    "I 1 x0 x41A2B9B0A2000000 x4192B9b0A0000000",
+    "I 1 x0 x41A2B9B0A0000000 x4192B9b0A0000000",
     "F 10 x0 x4056800000000000 x000",
     "F1 x0  x00 x8000000000000000 ",
     "F 1 x0 x0 xFFFFFFFFFFFFFFFF",
@@ -77,7 +77,7 @@ const ODD: [&str; 47] = [
     "F 1 x0 90 x0",
     "F 1 x0 x0 4631530004285489152",
     "I 1 0 x0 x0",
-    "I 1 x0 157079633 x0",
+    "I 1 x0 157079632 x0",
     "I 1 x0 x0 -78539816",
     "F 1 x0 90.0 x0",
     // a sign

@@ -1,4 +1,4 @@
-//! Document 01's rules and document 02's orders 1, 2, 3, 5, 6 and 7 once more, with no code of the product, and inputs for them:
+//! Document 01's rules and document 02's orders 1, 2, 3 and 5 to 8 once more, with no code of the product, and inputs for them:
 //! at every edge, and at random from a seed.
 pub mod arcminutes;
 pub mod edges;
@@ -37,11 +37,14 @@ pub mod torn_sorts;
 pub mod wide;
 
 /// Stops where the second program has something else than the documents' table and record, another half-width of kinds 3 and 4,
-/// another side's refusal, another sine, another text, another note, or takes something else of a torn file.
+/// another side's refusal, another sine, another text, another note, another neighbour of a half, or takes something else of a torn
+/// file.
 pub fn check() {
     sine::check();
     table::check();
     map::check();
+    halves::check();
+    float::check();
     record::check();
     reproject::check();
     text::check();

@@ -1,4 +1,4 @@
-//! The second program: document 01's rules and document 02's orders 1, 2, 3, 5, 6 and 7 once more, with no code of the product.
+//! The second program: document 01's rules and document 02's orders 1, 2, 3 and 5 to 8 once more, with no code of the product.
 //! `second requests` writes requests for the program `query`, and `second answers` reads such requests and writes what is to
 //! be answered. `second random SEED ROUNDS` writes more requests on floats than the stored ones.
 //!

@@ -1,5 +1,5 @@
-//! Document 01's rules in 128-bit arithmetic, with the half-widths of document 02's order 5 and the refusals of its order 6. What
-//! takes a row serves those of the table and the retired ones.
+//! Document 01's rules in 128-bit arithmetic, with the half-widths of document 02's order 5, the refusals of its order 6 and the
+//! rounding of its order 8. What takes a row serves those of the table and the retired ones.
 use crate::rounding::{floor_root, nearest};
 use crate::sine::{cosine, ONE};
 use crate::table::{retired_row_of, row_of, Outline, Row};
@@ -53,17 +53,23 @@ pub fn check() {
     }
 }
 
-/// The half-width at a latitude of size p.
-pub fn row_width(row: &Row, p: i128) -> i128 {
+/// The half-width at a latitude of size p, before it is rounded: the first number over the second.
+pub fn row_ratio(row: &Row, p: i128) -> (i128, i128) {
     let m = 32 * HALF_TURN;
     let s = |e| HALF_TURN * HALF_TURN + e * p * p;
-    let by_q = |a, b, q| nearest(row.kx * (a * m + b * q), 2 * m);
+    let by_q = |a, b, q| (row.kx * (a * m + b * q), 2 * m);
     match row.outline {
         Outline::Root(a, b, e) => by_q(a, b, floor_root(1024 * s(e))),
         Outline::Quotient(a, b, e) => by_q(a, b, 32 * s(e) / HALF_TURN),
-        Outline::Cosine => nearest(row.kx * cosine(p), ONE),
-        Outline::CosineMean => nearest(row.kx * (ONE + cosine(p)), 2 * ONE),
+        Outline::Cosine => (row.kx * cosine(p), ONE),
+        Outline::CosineMean => (row.kx * (ONE + cosine(p)), 2 * ONE),
     }
+}
+
+/// The half-width at a latitude of size p.
+pub fn row_width(row: &Row, p: i128) -> i128 {
+    let (n, d) = row_ratio(row, p);
+    nearest(n, d)
 }
 
 /// y of a latitude.

@@ -9,10 +9,10 @@ pub const MARK: [u8; 2] = [0x4d, 0xd2];
 pub const POSITION: u8 = 0;
 pub const PLACE: u8 = 1;
 
-/// Document 01's record, and the one that is made of it.
+/// Document 01's record, and the one that is made of it, with order 8's x.
 pub const DOCUMENT: [u8; LENGTH] =
     *b"\x4d\xd2\x01\x00\x00\x00\x00\x00\x80\x62\xee\x01\x40\x31\xf7\x00";
-const MOVED: [u8; LENGTH] = *b"\x4d\xd2\x01\x01\x00\x00\x00\x00\x51\xd8\x5c\x09\x28\x6c\xae\x04";
+const MOVED: [u8; LENGTH] = *b"\x4d\xd2\x01\x01\x00\x00\x00\x00\x50\xd8\x5c\x09\x28\x6c\xae\x04";
 
 /// Stops where something else is made of document 01's record.
 pub fn check() {

@@ -1,6 +1,7 @@
 //! Records at the edges: each byte of mark, kind and form, the limits of each number, and refusals beside each other.
 use crate::arcminutes;
 use crate::edges::{latitudes, longitudes, row_edges, signed, GREATEST, LEAST};
+use crate::halves;
 use crate::map::{HALF_TURN, RIGHT_ANGLE};
 use crate::record::{record, Record, DOCUMENT, MARK, PLACE, POSITION};
 use crate::record_random::Chance;
@@ -8,7 +9,7 @@ use crate::request::Request;
 use crate::requests::{self, DEGREE};
 use crate::table::{by_turns, row_of, KINDS};
 
-/// The stored input, with a torn record at its end.
+/// The stored input, with a torn record at its end. It is to stay within three reads.
 pub fn all() -> Vec<u8> {
     let mut records = document();
     records.extend(refusals());
@@ -19,6 +20,7 @@ pub fn all() -> Vec<u8> {
     records.extend(places());
     records.extend(arcminutes::degrees().filter_map(|request| asking(&request)));
     records.extend(neighbours());
+    records.extend(halves::few().iter().filter_map(asking));
     let mut chance = Chance::new(20_260_103);
     records.extend((0..2000).map(|_| chance.record()));
     let mut bytes = joined(&records);

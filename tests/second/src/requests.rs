@@ -2,6 +2,7 @@
 use crate::arcminutes;
 use crate::edges;
 use crate::float_requests;
+use crate::halves;
 use crate::map::{row_latitude, row_width, row_y};
 use crate::map::{HALF_TURN, RIGHT_ANGLE};
 use crate::note_requests;
@@ -18,6 +19,7 @@ pub fn all() -> Vec<u8> {
     requests.extend(edges::refusals());
     requests.extend(arcminutes::some());
     requests.extend(neighbours());
+    requests.extend(halves::stored());
     requests.extend(random());
     let mut lines = texts(requests);
     lines.extend(DOCUMENT.map(String::from));
@@ -94,7 +96,7 @@ pub const DOCUMENT: [&str; 24] = [
     // P1 and P2
     "f 1 0 32400000 16200000",
     "f 1 0 -32400000 -16200000",
-    "i 1 0 157079633 78539816",
+    "i 1 0 157079632 78539816",
     // P3 to P10: the half-width is x at 180 degrees
     "f 6 0 64800000 32400000",
     "f 2 0 64800000 19440000",

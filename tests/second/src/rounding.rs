@@ -1,12 +1,13 @@
 //! Rounding to the nearest, and the floor of a root.
+use std::cmp::Ordering;
 
-/// The whole number nearest to n / d, halves away from zero. Every rounding to the nearest of the second program is this one.
+/// The whole number nearest to n / d, halves to the even neighbour. Every rounding to the nearest of the second program is this one.
 pub fn nearest(n: i128, d: i128) -> i128 {
-    let up = (2 * n.abs() + d) / (2 * d);
-    if n < 0 {
-        -up
-    } else {
-        up
+    let floor = n.div_euclid(d);
+    match (2 * n.rem_euclid(d)).cmp(&d) {
+        Ordering::Less => floor,
+        Ordering::Equal => floor + floor.rem_euclid(2),
+        Ordering::Greater => floor + 1,
     }
 }
 

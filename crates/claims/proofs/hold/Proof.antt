@@ -1,17 +1,17 @@
 -- `claims::hold` meets its contract: each claim, by its law.
 use mathlib.Core.Bool.{Bool, true, false, cond}
 use mathlib.Core.List.{List, [], _∷_}
-use mathlib.Core.Path.{_≡_, refl}
-use Prim.Native.Nat.{ℕ, suc, _*_, _^_, _≤_}
+use mathlib.Core.Path.{_≡_, refl, ap, _∙_}
+use Prim.Native.Nat.{ℕ, suc, _+_, _*_, _^_, _≤_, _<_}
 use native.Mathlib.Omega.{arith}
 use borrow.Author.Tests.{le-leb}
 use lib.Dec.{T, eqb, le→leb}
 use lib.Ieee.{binary64, div, ofInt, round}
 use lib.Ieee.Back.{round-whole}
 use lib.Ieee.Exact.{HasValue}
-use lib.IntN.{ℤ, pos, negsuc, natAbs}
+use lib.IntN.{ℤ, pos, negsuc, negℤ, natAbs}
 use Rattle.whole.specs.Nearest.{nearest, carry}
-use Rattle.whole.specs.Signed.{splitOf}
+use Rattle.whole.specs.Signed.{splitOf, nearestSigned}
 use Rattle.whole.specs.Root.{root, rootIn}
 use Rattle.whole.proofs.Rounding.{near, nearest-zero, half}
 use Rattle.whole.proofs.Squares.{root-is}
@@ -55,6 +55,7 @@ use Rattle.claims.specs.RecordExample.{input}
 use Rattle.claims.specs.Written.{Written, DegreesBack}
 use Rattle.claims.proofs.Bound.{within-one, one-is-m}
 use Rattle.claims.proofs.Roots.{exact}
+use Rattle.claims.proofs.Halves.{halves}
 use Rattle.claims.proofs.Sines.{house-sine}
 use Rattle.claims.proofs.Cosines.{cosine-kinds}
 use Rattle.claims.proofs.Refusals.{ordered}
@@ -188,13 +189,27 @@ worked : Examples
 unfolding examples forwardOf unless isKind placeOf xOf yOf height wrap rowOf rows halfWidth numerator oneOf oneBy qAt radicand qBy nearest carry root rootIn readOf
 worked = record { numbers = refl; values = refl }
 
+mirrored : (z : ℤ) (d : ℕ) → nearestSigned (negℤ z) d ≡ negℤ (nearestSigned z d)
+mirrored z d = on-neg (λ (n : ℕ). nearest n d) (nearest-zero d) z
+
+half-even : (k h : ℕ) → 0 < h → nearestSigned (pos (2 * h * (2 * k) + h)) (2 * h) ≡ pos (2 * k)
+half-even k h l = ap pos (half (2 * k) h l ∙ omega arith)
+
+half-odd : (k h : ℕ) → 0 < h → nearestSigned (pos (2 * h * (2 * k + 1) + h)) (2 * h) ≡ pos (2 * k + 2)
+half-odd k h l = ap pos (half (2 * k + 1) h l ∙ omega arith)
+
 arithmetic : Arithmetic
+unfolding nearest carry
 arithmetic =
     record {
       near = near;
-      half = half;
-      mirrored = λ z d. on-neg (λ (n : ℕ). nearest n d) (nearest-zero d) z;
+      mirrored = mirrored;
       sized = λ z d. natAbs-on (λ (n : ℕ). nearest n d) z;
+      half-above-even = half-even;
+      half-above-odd = half-odd;
+      half-below-even = λ k h l. mirrored (pos (2 * h * (2 * k) + h)) (2 * h) ∙ ap negℤ (half-even k h l);
+      half-below-odd = λ k h l. mirrored (pos (2 * h * (2 * k + 1) + h)) (2 * h) ∙ ap negℤ (half-odd k h l);
+      halves = refl;
       floor = root-is;
       exact = exact;
       half-turn = refl;
@@ -203,7 +218,7 @@ arithmetic =
 
 returns : tie.Need-returns
 returns c =
-    (demands, edges, turned-places, sharp, worked, record-example, arithmetic, house-sine, cosine-kinds, written, printing, interface, texts, text-examples, notes, salvages, salvage-examples, exchange, reprojection, reprojection-examples, reprojected-runs, salvaged-runs)
+    (demands, edges, turned-places, sharp, worked, record-example, arithmetic, halves, house-sine, cosine-kinds, written, printing, interface, texts, text-examples, notes, salvages, salvage-examples, exchange, reprojection, reprojection-examples, reprojected-runs, salvaged-runs)
 
 pub hold-spec : {M : Type 1} → statement M
 hold-spec = tie.close (tie.spec returns)
