@@ -21,9 +21,9 @@ pub record Halves : Type 0 where
   -- x and y of kind 1: 3490658 and a half at 2 degrees, 10471975 and a half at 6
   pub place-down : forwardOf 1 (pos 0) (pos 720000) (neg 720000) ≡ given (pos 3490658, neg 3490658)
   pub place-up : forwardOf 1 (pos 0) (neg 2160000) (pos 2160000) ≡ given (neg 10471976, pos 10471976)
-  -- half-widths: 136034952 and a half at the pole of kind 6, 125331413 and a half at that of kind 8
+  -- half-widths: 136034952 and a half at the pole of kind 6, 275762021 and a half at some 43.1 degrees of kind 2
   pub width-down : widthOf 6 (pos 32400000) ≡ given 136034952
-  pub width-up : widthOf 8 (pos 32400000) ≡ given 125331414
+  pub width-up : widthOf 2 (neg 15521804) ≡ given 275762022
   -- differences of longitude on kind 6's parallel of 43 degrees: 25312 and a half, 8437 and a half
   pub longitude-down : inverseOf 6 (pos 0) (pos 96753) (pos 75049158) ≡ given (pos 25312, pos 15480000)
   pub longitude-up : inverseOf 6 (pos 0) (neg 32251) (pos 75049158) ≡ given (neg 8438, pos 15480000)

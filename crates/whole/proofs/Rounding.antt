@@ -1,9 +1,8 @@
--- The law of `nearest`. Only the code's own proof and the worked examples open the definition besides, so that the
--- decision for halves is proved here alone.
+-- The law of `nearest`. Only worked examples open `carry` besides, so that the decision for halves is proved here alone.
 use mathlib.Core.Path.{_≡_, refl, sym, ap, ap₂, _∙_}
-use mathlib.Core.Bool.{Bool, true, false, cond}
+use mathlib.Core.Bool.{Bool, true, false}
 use Prim.Native.Nat.{ℕ, zero, suc, _+_, _*_, _/_, _%_, _≤_, _<_, min}
-use native.Mathlib.Nat.{div-add-mod', mod-lt, mul-add, mul-comm, mul-add-div, div-eq-of-lt, mul-add-mod-self-left, mod-eq-of-lt, le-refl, le-antisymm, mul-pos, mul-le-mul-right, mul-lt-mul-of-pos-right, mul-div-mul-right, mul-div-cancel, mul-mod-left, div-div-eq-div-mul, add-zero}
+use native.Mathlib.Nat.{div-add-mod', mod-lt, mul-add, mul-comm, mul-add-div, div-eq-of-lt, mul-add-mod-self-left, mod-eq-of-lt, le-antisymm, mul-pos, mul-lt-mul-of-pos-right, mul-div-mul-right, mul-div-cancel, mul-mod-left, div-div-eq-div-mul, add-zero}
 use native.Mathlib.Omega.{arith}
 use borrow.Author.Tests.{ltb-true, ltb-false, lt-ltb, le-ltb, ne-eqb}
 use lib.Arith.{mod-mul}

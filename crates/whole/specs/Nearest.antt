@@ -3,8 +3,7 @@ use mathlib.Core.Bool.{cond}
 use Prim.Native.Nat.{ℕ, _+_, _*_, _/_, _%_, _≤_}
 use lib.Dec.{ltb, eqb}
 
--- what is added to a quotient's floor q where r of d is left over: 0 for less than a half, 1 for more, and a half goes to the even
--- neighbour, q itself or one more
+-- what is added to a quotient's floor q where r of d is left over: 0 below a half, 1 above it, and a half goes to the even neighbour
 unfoldable pub carry : ℕ → ℕ → ℕ → ℕ
 carry q r d = cond (ltb (2 * r) d) 0 (cond (ltb d (2 * r)) 1 (q % 2))
 

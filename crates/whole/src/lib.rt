@@ -16,8 +16,8 @@ pub fn nearest(n: u64, d: u64) -> u64
     q + carry(q, n % d, d)
 }
 
-// What is added to a quotient's floor q where r of d is left over. A half goes to the even neighbour, and only an even d has one: by
-// d / 2, a constant where d is one, a comparison is all that is left to do.
+// What is added to a quotient's floor q where r of d is left over: a half goes to the even neighbour, and only an even d has one. Where
+// d is a constant, so is d / 2, and one comparison is left.
 fn carry(q: u64, r: u64, d: u64) -> u64
     requires { ⌜ r < d ⌝ }
     ensures { λ c. ⌜ c ≡ carryOf q r d ⌝ }
