@@ -55,7 +55,7 @@ extern "C" {
 #define ULDASEONG_RUNS(n) ((n) / 17 * 8 + 8)
 
 /* Angles are whole hundredths of an arcsecond, 360,000 to the degree, east and north positive; places are whole hundred-
- * millionths of the sphere's radius. */
+ * millionths of the sphere's radius. Both are rounded to the nearest, a half to the even neighbour. */
 
 /* The place of a position: x, then y. Refusals: 1, 3, 4, 5. */
 uint8_t uldaseong_forward(uint8_t kind, int32_t central, int32_t longitude, int32_t latitude, int32_t place[2]);
@@ -63,8 +63,8 @@ uint8_t uldaseong_forward(uint8_t kind, int32_t central, int32_t longitude, int3
 /* The position of a place: longitude, then latitude. Refusals: 1, 3, 6, 18, 7, 17. */
 uint8_t uldaseong_inverse(uint8_t kind, int32_t central, int32_t x, int32_t y, int32_t position[2]);
 
-/* The same with angles in degrees. A float stands for the whole number nearest to its exact value, times 360,000 for degrees;
- * what is answered reads back as the same number. Refusals: 1, 2, 3, 4, 5. */
+/* The same with angles in degrees. A float stands for the whole number nearest to its exact value, times 360,000 for degrees, a half
+ * going to the even neighbour; what is answered reads back as the same number. Refusals: 1, 2, 3, 4, 5. */
 uint8_t uldaseong_forward_degrees(uint8_t kind, double central, double longitude, double latitude, double place[2]);
 
 /* Refusals: 1, 2, 3, 6, 18, 7, 17. */

@@ -2,25 +2,26 @@
 use mathlib.Core.Bool.{Bool}
 use mathlib.Core.Logic.{_≢_}
 use mathlib.Core.Path.{_≡_, refl, sym, ap}
-use Prim.Native.Nat.{ℕ, suc, _+_, _-_, _*_, _%_, _^_, _≤_, _<_, min}
+use Prim.Native.Nat.{ℕ, suc, _+_, _-_, _*_, _/_, _%_, _^_, _≤_, _<_}
 use native.Mathlib.Nat.{pow-succ', mul-one}
 use native.Mathlib.Omega.{arith}
-use lib.Dec.{T}
+use lib.Dec.{T, ltb, ltb→lt}
 use lib.Ieee.{fin}
 use lib.IntN.{negsuc}
 use lib.Pow.{pow-pos}
 use Rattle.whole.specs.Nearest.{nearest, carry}
 use Rattle.whole.specs.Root.{root, rootIn}
 use Rattle.whole.specs.Signed.{withSign}
-use Rattle.whole.proofs.Everywhere.{agreeing, agree-at}
 use Rattle.whole.proofs.Rounding.{half}
 use Rattle.whole.proofs.Scales.{nearest-strict}
 use Rattle.angle.specs.Angle.{N}
-use Rattle.parallel.specs.Table.{rows, rowOf}
+use Rattle.parallel.specs.declared.table.Row.{Row}
+use Rattle.parallel.specs.Table.{rows, noRow, rowOf}
 use Rattle.parallel.specs.Parallel.{radicand, qBy, qAt, oneBy, oneOf, numerator, halfWidth, height}
 use Rattle.parallel.specs.Latitude.{yOf, latitudeSize, latitudeAt, widthAt}
 use Rattle.parallel.specs.Refusal.{isKind, unless}
 use Rattle.parallel.specs.Answer.{widthOf}
+use Rattle.parallel.proofs.Every.{every, every-at}
 use Rattle.parallel.proofs.Rows.{kind-range}
 use Rattle.projection.specs.Longitude.{wrap}
 use Rattle.projection.specs.Forward.{xOf, placeOf}
@@ -29,19 +30,20 @@ use Rattle.projection.specs.Answer.{forwardOf, inverseOf}
 use Rattle.reading.specs.Reading.{readOf}
 use Rattle.claims.specs.Halves.{Halves}
 
--- ---- no latitude of a y is k and a half: 2 N has a factor 8, and no KY has
+-- ---- no latitude of a y is k and a half: 2 N is a multiple of 8, and no KY is
 
-all-odd : T (agreeing (λ (k : ℕ). min 1 (rowOf (suc k) .ky % 8)) (λ (k : ℕ). 1) 12)
-unfolding rowOf rows
-all-odd = tt
+hasRest : Row → Bool
+hasRest r = ltb 0 (r .ky % 8)
+
+all-rest : T (every hasRest rows)
+unfolding hasRest rows
+all-rest = tt
 
 ky-rest : (kind : ℕ) → T (isKind kind) → 0 < rowOf kind .ky % 8
-unfolding rows
+unfolding hasRest rowOf
 ky-rest kind t =
-    let r = kind-range kind t in
-    let e : suc (kind - 1) ≡ kind = omega arith in
-    let a = rw e at (agree-at (λ (k : ℕ). min 1 (rowOf (suc k) .ky % 8)) (λ (k : ℕ). 1) 12 all-odd (kind - 1) (omega arith)) in
-    omega arith
+    let k = kind-range kind t in
+    ltb→lt 0 (rowOf kind .ky % 8) (every-at hasRest noRow rows all-rest (kind - 1) (omega arith))
 
 -- a factor of an even number, where the other factor is odd, is even, and its half is a factor of the half
 record Halved (a k y : ℕ) : Type 0 where
@@ -57,10 +59,10 @@ halved a k y e =
 
 no-latitude : (kind y k : ℕ) → T (isKind kind) → 2 * (y * N) ≢ rowOf kind .ky * (2 * k + 1)
 no-latitude kind y k t e =
-    let once = halved (rowOf kind .ky) k (y * N) (sym e) in
-    let twice = halved (once .by-two) k (32400000 * y) (omega (arith, once .product)) in
-    let thrice = halved (twice .by-two) k (16200000 * y) (omega (arith, twice .product)) in
-    omega (arith, ky-rest kind t, once .twice, twice .twice, thrice .twice)
+    let first = halved (rowOf kind .ky) k (y * N) (sym e) in
+    let second = halved (first .by-two) k (y * (N / 2)) (omega (arith, first .product)) in
+    let third = halved (second .by-two) k (y * (N / 4)) (omega (arith, second .product)) in
+    omega (arith, ky-rest kind t, first .twice, second .twice, third .twice)
 
 -- ---- floats
 
