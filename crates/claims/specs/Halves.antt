@@ -16,7 +16,7 @@ use Rattle.parallel.specs.Answer.{widthOf}
 use Rattle.projection.specs.Answer.{forwardOf, inverseOf}
 use Rattle.reading.specs.Reading.{readOf, centiseconds, units}
 
--- k and a half is above an even number where it goes down, and above an odd one where it goes up
+-- by size, k and a half is above an even number where it goes down, and above an odd one where it goes up
 pub record Halves : Type 0 where
   -- x and y of kind 1: 3490658 and a half at 2 degrees, 10471975 and a half at 6
   pub place-down : forwardOf 1 (pos 0) (pos 720000) (neg 720000) ≡ given (pos 3490658, neg 3490658)

@@ -25,6 +25,7 @@ pub fn all() -> Vec<u8> {
     records.extend((0..2000).map(|_| chance.record()));
     let mut bytes = joined(&records);
     bytes.extend(&DOCUMENT[..11]);
+    assert!(bytes.len() <= 3 * 65_536, "within three reads");
     bytes
 }
 

@@ -1,5 +1,6 @@
 //! Forward and inverse on floats: the stored requests, the ends of the format and every limit in every mixture, every half
-//! of a centisecond, and floats at random.
+//! of a centisecond, places whose difference of longitudes is a half, and floats at random.
+use crate::halves::halves;
 use crate::library;
 use crate::numbers::stored;
 use crate::pairs::{hand_on, Call};
@@ -40,12 +41,24 @@ pub fn forward(part: &mut Part, seed: u64) {
 
 pub fn inverse(part: &mut Part, seed: u64) {
     INVERSE.compare_all(part, edges());
+    INVERSE.compare_all(part, halves(seed).filter_map(as_floats));
     INVERSE.compare_all(part, drawn(seed, ROUNDS));
 }
 
 pub fn handed_on(part: &mut Part, seed: u64) {
     hand_on(part, [&FORWARD, &INVERSE], edges());
+    let places = halves(seed).filter_map(as_floats);
+    hand_on(part, [&FORWARD, &INVERSE], places);
     hand_on(part, [&FORWARD, &INVERSE], drawn(seed, ROUNDS / 8));
+}
+
+/// A place of whole numbers, and its central meridian in degrees, which read back as the same.
+fn as_floats(request: Request) -> Option<Request> {
+    let Request::Place(kind, [central, x, y]) = request else {
+        return None;
+    };
+    let central = central as f64 / DEGREE as f64;
+    Some(place(kind, central, x as f64, y as f64))
 }
 
 fn edges() -> impl Iterator<Item = Request> {
