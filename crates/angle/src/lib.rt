@@ -1,15 +1,17 @@
 // An angle, and the numbers of its unit.
+#![tactic(auto)]
+
 mod sexagesimal;
 
 ghost use Rattle.std.specs.Prelude.{◌≡◌};
 ghost use Rattle.whole.specs.Signed.{split_of, join_of};
-ghost use Rattle.angle.specs.Angle.{outside as outsideOf};
+ghost use Rattle.angle.specs.Angle.{outside as outside_of};
 
 pub use sexagesimal::Sexagesimal;
 use whole::Signed;
 
 // A longitude or a latitude in whole hundredths of an arcsecond ("centiseconds" of document 01).
-#[derive(Drop)]
+#[derive(Clone, Copy)]
 pub struct Angle {
     pub count: Signed,
 }
@@ -38,7 +40,7 @@ impl Angle {
 
     // Whether the angle lies farther from 0 than a limit, either way.
     pub fn outside(self, limit: u32) -> bool
-        ensures { result ≡ outsideOf limit (join_of self.count) }
+        ensures { result ≡ outside_of limit (join_of self.count) }
     {
         let count = self.count;
         limit < count.size

@@ -4,7 +4,7 @@ ghost use Rattle.angle.specs.Sexagesimal.{sexagesimal_of, size_of, below_sixty};
 
 use super::Angle;
 
-#[derive(Drop)]
+#[derive(Clone, Copy)]
 pub struct Sexagesimal {
     pub negative: bool,
     pub degrees: u32,

@@ -17,7 +17,7 @@ use Rattle.angle.specs.Angle.{per_degree}
 use Rattle.reading.proofs.Rounded.{Stands, rounded_back}
 use Rattle.degrees.specs.Writing.{degrees_of, units_of}
 
--- one division by the float of perDegree, which is 5625 * 2 ^ 6
+-- one division by the float of per_degree, which is 5625 * 2 ^ 6
 pub per_degree_lem : of_int binary64 (pos per_degree) ≡ fin false 5625 (pos 6)
 unfolding of_int round
 per_degree_lem = refl

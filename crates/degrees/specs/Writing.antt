@@ -4,7 +4,7 @@ use Rattle.std.specs.Float.{binary64}
 use Rattle.std.specs.Float.Ieee.{of_int, div}
 use Rattle.angle.specs.Angle.{per_degree}
 
--- hundredths of an arcsecond as degrees: divided by the float of perDegree, rounded once
+-- hundredths of an arcsecond as degrees: divided by the float of per_degree, rounded once
 unfoldable pub degrees_of : ℤ → Float
 degrees_of z = div binary64 (of_int binary64 z) (of_int binary64 (pos per_degree))
 

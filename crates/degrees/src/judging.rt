@@ -1,12 +1,12 @@
 // Judging the floats of a call.
 ghost use Rattle.std.specs.Prelude.{◌&&◌, ◌≡◌};
-ghost use Rattle.std.specs.Float.Ieee.Scale.{finite as finiteOf};
+ghost use Rattle.std.specs.Float.Ieee.Scale.{finite as finite_of};
 
 use reading::finite;
 
 // Whether the floats are neither NaN nor infinite.
 pub(crate) fn all_finite(a: f64, b: f64, c: f64) -> bool
-    ensures { result ≡ (finiteOf a && finiteOf b && finiteOf c) }
+    ensures { result ≡ (finite_of a && finite_of b && finite_of c) }
 {
     if !finite(a) {
         return false;

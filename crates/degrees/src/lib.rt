@@ -1,5 +1,7 @@
 // Forward and inverse on f64: degrees in place of hundredths of an arcsecond, and places as f64 (the "f64 door" of
 // document 01).
+#![tactic(auto)]
+
 mod answer;
 mod judging;
 mod place;

@@ -1,7 +1,7 @@
 // Writing whole numbers as floats.
 ghost use Rattle.std.specs.Prelude.{◌≡◌};
 ghost use Rattle.parallel.specs.Refusal.{on_given};
-ghost use Rattle.projection.specs.Answer.{meaning as wholeMeaning};
+ghost use Rattle.projection.specs.Answer.{meaning as whole_meaning};
 ghost use Rattle.degrees.specs.Writing.{degrees_of};
 ghost use Rattle.degrees.specs.Answer.{meaning, degrees_meaning, written_place, written_position};
 
@@ -13,7 +13,7 @@ use projection::Answer;
 const PER_DEGREE: f64 = Angle::PER_DEGREE as f64;
 
 // A longitude and a latitude in degrees.
-#[derive(Drop)]
+#[derive(Clone, Copy)]
 pub struct Degrees {
     pub longitude: f64,
     pub latitude: f64,
@@ -34,8 +34,9 @@ impl Degrees {
 }
 
 // A place in map units, as floats.
+#[tactic(auto, unfolding(crate::specs::Writing::units_of))]
 pub(crate) fn written_place(answer: Answer) -> FloatAnswer
-    ensures { meaning result ≡ on_given written_place (wholeMeaning answer) }
+    ensures { meaning result ≡ on_given written_place (whole_meaning answer) }
 {
     match answer {
         Answer::Pair(x, y) => {
@@ -49,7 +50,7 @@ pub(crate) fn written_place(answer: Answer) -> FloatAnswer
 
 // A position in hundredths of an arcsecond, in degrees.
 pub(crate) fn written_position(answer: Answer) -> DegreesAnswer
-    ensures { degrees_meaning result ≡ on_given written_position (wholeMeaning answer) }
+    ensures { degrees_meaning result ≡ on_given written_position (whole_meaning answer) }
 {
     match answer {
         Answer::Pair(longitude, latitude) => {

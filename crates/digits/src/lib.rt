@@ -1,4 +1,6 @@
 // Decimal digits in ASCII, put into a lent piece.
+#![tactic(auto)]
+
 ghost use Rattle.std.specs.Prelude.{◌≡◌, length};
 ghost use Rattle.digits.specs.Digits.{is_digit, last_digits};
 

@@ -1,7 +1,7 @@
 // What writing a text answers.
 
 // That the text is written; or the number of the refusal.
-#[derive(Drop)]
+#[derive(Clone, Copy)]
 pub enum TextAnswer {
     Written,
     Refused(u8),

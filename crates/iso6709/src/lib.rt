@@ -1,4 +1,6 @@
 // Positions as text by ISO 6709: degrees, minutes and seconds with two decimals, the latitude first, as +450000.00+0900000.00/.
+#![tactic(auto)]
+
 mod answer;
 mod layout;
 mod reading;

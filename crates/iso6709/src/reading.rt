@@ -15,6 +15,7 @@ use shape::{SIZE, stand};
 use whole::Signed;
 
 // The position of a text, longitude and latitude; or the first refusal of 12, 13, 14, 15, 5 and 4.
+#[tactic(auto, using(crate::proofs::Numbers::has_latitude, crate::proofs::Numbers::has_longitude, crate::proofs::Numbers::narrow), unfolding(crate::specs::Answer::read_of, crate::specs::Answer::angles_of, parallel::specs::Refusal::unless))]
 pub fn read_text(text: &[u8]) -> Answer
     ensures { meaning result ≡ read_of text.now }
 {
@@ -30,6 +31,7 @@ pub fn read_text(text: &[u8]) -> Answer
 }
 
 // The position of two angles as they are written; or the first refusal of 14, 15, 5 and 4.
+#[tactic(auto, unfolding(crate::specs::Answer::angles_of, crate::specs::Answer::position_of, parallel::specs::Refusal::unless))]
 fn angles(longitude: Sexagesimal, latitude: Sexagesimal) -> Answer
     requires { Narrow longitude × Narrow latitude }
     ensures { meaning result ≡ angles_of longitude latitude }
@@ -44,6 +46,7 @@ fn angles(longitude: Sexagesimal, latitude: Sexagesimal) -> Answer
 }
 
 // The position of two angles by sign and size; or the first refusal of 15, 5 and 4.
+#[tactic(auto, using(whole::proofs::Signs::join_back), unfolding(crate::specs::Answer::position_of, parallel::specs::Refusal::unless))]
 fn position(longitude: Signed, latitude: Signed) -> Answer
     ensures { meaning result ≡ position_of longitude latitude }
 {
@@ -82,6 +85,7 @@ fn is_minus_zero(angle: Signed) -> bool
 }
 
 // The angle in the part of a text at a place, with so many digits of degrees.
+#[tactic(auto, unfolding(crate::specs::Part::part_at))]
 fn part_at(text: &[u8], at: usize, width: usize) -> Sexagesimal
     requires { HasDigits text.now at width }
     ensures { result ≡ part_at text.now at width }

@@ -15,6 +15,7 @@ use digits::put_digits;
 use shape::SIZE;
 
 // Writes a position's text; or answers the first refusal of 12, 5 and 4, and leaves `text` as it is.
+#[tactic(auto, unfolding(crate::specs::Answer::write_of, parallel::specs::Refusal::unless))]
 pub fn write_text(longitude: i32, latitude: i32, text: &mut [u8]) -> TextAnswer
     ensures value { result ≡ answer_of (write_of longitude latitude (length text.old)) }
     ensures text_after { text.new ≡ or_else text.old (write_of longitude latitude (length text.old)) }
@@ -35,6 +36,7 @@ pub fn write_text(longitude: i32, latitude: i32, text: &mut [u8]) -> TextAnswer
 }
 
 // Puts both angles into a text, the latitude first.
+#[tactic(auto, using(crate::proofs::Parts::both_put))]
 fn put_both(text: &mut [u8], longitude: Angle, latitude: Angle)
     requires { length text.old ≡ size }
     ensures { text.new ≡ both_of (sexagesimal_of longitude.count) (sexagesimal_of latitude.count) }
@@ -71,6 +73,7 @@ fn put_minutes(text: &mut [u8], at: usize, angle: Sexagesimal)
 }
 
 // Puts so many digits of a number at a place of a text.
+#[tactic(auto, using(digits::proofs::Puts::put_digits))]
 fn put_number(text: &mut [u8], at: usize, count: usize, n: u32)
     requires { at + count ≤ length text.old }
     ensures { Put text.old at (last_digits count n) (at + count) text.new }

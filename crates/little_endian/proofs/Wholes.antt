@@ -1,11 +1,11 @@
 -- Whole numbers in bytes: what is written is read again, and how both go byte by byte.
 use mathlib.Core.List.{List, [], ◌∷◌, ◌++◌, append_assoc}
-use mathlib.Core.Path.{◌≡◌, refl, ap}
-use Prim.Native.Nat.{ℕ, zero, suc, ◌+◌, ◌*◌, ◌/◌, ◌%◌, ◌^◌, ◌≤◌, ◌<◌}
+use mathlib.Core.Path.{◌≡◌, refl, ap, ◌∙◌}
+use Prim.Native.Nat.{ℕ, zero, suc, ◌+◌, ◌-◌, ◌*◌, ◌/◌, ◌%◌, ◌^◌, ◌≤◌, ◌<◌}
 use native.Mathlib.Nat.{pow-suc, pow-le-pow_right}
 use native.Mathlib.Omega.{arith}
-use lib.ListN.{length, get_or, set, take, drop}
-use lib.Seq.{length-take-le, drop-cons, get_or-take, take-suc-set}
+use lib.ListN.{length, get_or, set, take, drop, length-set}
+use lib.Seq.{length-take-le, drop-cons, get_or-take, take-suc-set, sets-eq}
 use Rattle.little_endian.specs.Whole.{whole_of, least_bytes}
 
 pub least_length : (k n : ℕ) → length (least_bytes k n) ≡ k
@@ -62,3 +62,25 @@ pub next_written : (bytes : List ℕ) (i k rest : ℕ) → i < length bytes →
     take (suc i) (set bytes i (rest % 256)) ++ least_bytes k (rest / 256) ≡ take i bytes ++ least_bytes (suc k) rest
 next_written bytes i k rest h =
     rw (take-suc-set bytes i (rest % 256) h) (append_assoc (take i bytes) (rest % 256 ∷ []) (least_bytes k (rest / 256)))
+
+pub one_written : (piece all : List ℕ) (i rest : ℕ) → i < length piece → take i piece ++ least_bytes (length piece - i) rest ≡ all →
+    take (i + 1) (set piece i (rest % 256)) ++ least_bytes (length (set piece i (rest % 256)) - (i + 1)) (rest / 256) ≡ all
+one_written piece all i rest h e =
+    let one : i + 1 ≡ suc i = omega arith in
+    let left : length piece - i ≡ suc (length piece - suc i) = omega arith in
+    rw (length-set piece i (rest % 256), one)
+    (next_written piece i (length piece - suc i) rest h ∙ rw left at e)
+
+-- ---- four bytes that are written, one after the other
+
+pub stores : (l : List ℕ) (at n : ℕ) → at + 4 ≤ length l → n < 4294967296 →
+    set (set (set (set l at (n % 256)) (at + 1) (n / 256 % 256)) (at + 2) (n / 65536 % 256)) (at + 3) (n / 16777216)
+    ≡ take at l ++ (least_bytes 4 n ++ drop (at + 4) l)
+stores l at n h k =
+    let one : at + 1 ≡ suc at = omega arith in
+    let two : at + 2 ≡ suc (suc at) = omega arith in
+    let three : at + 3 ≡ suc (suc (suc at)) = omega arith in
+    let bytes : List ℕ = n % 256 ∷ n / 256 % 256 ∷ n / 65536 % 256 ∷ n / 16777216 ∷ [] in
+    rw (one, two, three) (sets-eq bytes l at h)
+    ∙ append_assoc (take at l) bytes (drop (at + 4) l)
+    ∙ ap (λ (four : List ℕ). take at l ++ (four ++ drop (at + 4) l)) (least_four n k)

@@ -1,4 +1,6 @@
 // Numbers in bytes, the least byte first: a signed 32-bit one at a place of a lent piece, and a whole one in as many bytes as a piece has.
+#![tactic(auto)]
+
 ghost use Rattle.std.specs.Prelude.{◌≡◌, [], ◌∷◌, ◌++◌, leb, length, take, drop, ◌+◌, ◌≤◌};
 ghost use Rattle.std.specs.Int.{w32};
 ghost use Rattle.std.proofs.Common.{to_z, of_z};
@@ -12,6 +14,7 @@ mod whole_numbers;
 pub use whole_numbers::{get_whole, put_whole};
 
 // The number at a place; 0 where four bytes do not stand there.
+#[tactic(auto, unfolding(crate::specs::Number::number_at))]
 pub fn get(bytes: &[u8], at: usize) -> i32
     ensures { result ≡ number_at bytes.now at }
 {
@@ -22,6 +25,7 @@ pub fn get(bytes: &[u8], at: usize) -> i32
 }
 
 // Puts a number at a place and answers true; where four bytes do not stand there, nothing is written.
+#[tactic(auto, unfolding(crate::specs::Number::with_number, crate::specs::Number::bytes_of))]
 pub fn put(bytes: &mut [u8], at: usize, z: i32) -> bool
     ensures value { result ≡ has_four bytes.old at }
     ensures bytes_after { bytes.new ≡ with_number bytes.old at z }
@@ -47,6 +51,7 @@ fn read(bytes: &[u8], at: usize) -> i32
     signed(word(bytes[at], bytes[at + 1], bytes[at + 2], bytes[at + 3]))
 }
 
+#[tactic(auto, using(crate::proofs::Wholes::stores))]
 fn write(bytes: &mut [u8], at: usize, n: u32)
     requires { at + 4 ≤ length bytes.old }
     ensures { bytes.new ≡ take at bytes.old ++ (least_bytes 4 n ++ drop (at + 4) bytes.old) }

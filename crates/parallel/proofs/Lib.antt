@@ -1,6 +1,7 @@
 pub mod Every
 pub mod Rows
 pub mod Widths
+pub mod Fractions
 pub mod Scales
 pub mod Heights
 pub mod Orders

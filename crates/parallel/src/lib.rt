@@ -1,5 +1,7 @@
 // The parallels of the projections: a half-width, and a y, for each kind at each latitude. Angles are in hundredths of an
 // arcsecond, map units hundred-millionths of the sphere's radius.
+#![tactic(auto)]
+
 mod at;
 mod height;
 mod table;

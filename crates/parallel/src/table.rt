@@ -2,10 +2,10 @@
 // Sinusoidal and Eckert V.
 ghost use Rattle.std.specs.Prelude.{◌≡◌, T, ◌<◌, length, get_or};
 ghost use Rattle.parallel.specs.Table.{rows, no_row, row_of};
-ghost use Rattle.parallel.specs.Refusal.{is_kind as isKindOf};
+ghost use Rattle.parallel.specs.Refusal.{is_kind as is_kind_of};
 
 // How a row has its q.
-#[derive(Drop)]
+#[derive(Clone, Copy)]
 pub enum Method {
     Root,
     Quotient,
@@ -13,7 +13,7 @@ pub enum Method {
     Cosine,
 }
 
-#[derive(Drop)]
+#[derive(Clone, Copy)]
 pub struct Row {
     pub kx: u32,
     pub ky: u32,
@@ -137,8 +137,9 @@ const ROWS: [Row; KINDS] = [
 ];
 
 // Whether a kind has a row.
+#[tactic(auto, unfolding(crate::specs::Refusal::is_kind, crate::specs::Table::rows))]
 pub fn is_kind(kind: u8) -> bool
-    ensures { result ≡ isKindOf kind }
+    ensures { result ≡ is_kind_of kind }
 {
     if kind == 0 {
         false
@@ -148,8 +149,9 @@ pub fn is_kind(kind: u8) -> bool
 }
 
 // The row of a kind, taken field by field: a copy of the whole would wait for its narrow last field.
+#[tactic(auto, using(crate::proofs::Rows::kind_range), unfolding(crate::specs::Table::row_of))]
 pub(crate) fn row_of(kind: u8) -> Row
-    requires { T (isKindOf kind) }
+    requires { T (is_kind_of kind) }
     ensures { result ≡ row_of kind }
 {
     let row = row_at((kind - 1) as usize);
@@ -165,6 +167,7 @@ pub(crate) fn row_of(kind: u8) -> Row
 }
 
 // A row of the table, counted from 0.
+#[tactic(auto, unfolding(crate::specs::Table::rows))]
 fn row_at(i: usize) -> Row
     requires { i < length rows }
     ensures { result ≡ get_or rows i no_row }

@@ -1,4 +1,6 @@
 // Pseudocylindrical projections with equally spaced meridians, in whole numbers: forward from positions to places, and inverse.
+#![tactic(auto)]
+
 mod answer;
 mod longitude;
 mod place;

@@ -8,6 +8,7 @@ use angle::Angle;
 use whole::Signed;
 
 // A longitude less the central meridian, brought between -N and N.
+#[tactic(auto, using(whole::proofs::Signs::sign_turned))]
 pub(crate) fn difference(central: Signed, longitude: Signed) -> Signed
     requires { (central.size ≤ N) × (longitude.size ≤ N) }
     ensures { join_of result ≡ difference_of (join_of central) (join_of longitude) }
@@ -41,6 +42,7 @@ fn less(east: u64, west: u64) -> Signed
 }
 
 // A number by its sign and size, brought between -N and N: past N, a turn back leads to the other side of 0.
+#[tactic(auto, using(crate::proofs::Longitudes::wrap_near, crate::proofs::Longitudes::wrap_far, whole::proofs::Signs::nat_abs_sign))]
 fn wrapped(negative: bool, size: u32) -> Signed
     requires { size ≤ 2 * N }
     ensures { join_of result ≡ wrap (with_sign negative size) }

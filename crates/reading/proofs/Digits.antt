@@ -1,13 +1,14 @@
 -- A product of digits that is worked out in two parts, and what is read from it.
 use mathlib.Core.Path.{◌≡◌, sym, ap, ap₂, ◌∙◌}
-use Prim.Native.Nat.{ℕ, ◌+◌, ◌-◌, ◌*◌, ◌/◌, ◌%◌, ◌^◌, ◌≤◌, ◌<◌}
+use Prim.Native.Nat.{ℕ, ◌+◌, ◌-◌, ◌*◌, ◌/◌, ◌%◌, ◌^◌, ◌≤◌, ◌<◌, min}
 use native.Mathlib.Nat.{le_trans, le_of_lt, lt_of_le_of_lt, mod-lt, mul_comm, mul_right_comm, add-mul, mul-le-mul, div-div-eq-div-mul, div-add-mod', mul-add-div_right, mul-add-mod_self_right, mul-pos}
 use native.Mathlib.Omega.{arith}
 use lib.Arith.{mod-mul}
 use lib.Dec.{lit<, lit≤}
 use lib.Pow.{pow_pos, pow-add, pow_mono}
 use Rattle.whole.specs.Nearest.{nearest}
-use Rattle.whole.proofs.Rounding.{near, nearest_scale}
+use Rattle.whole.proofs.Products.{shifted}
+use Rattle.whole.proofs.Rounding.{near, nearest_scale, nearest_halves}
 use Rattle.whole.proofs.Scales.{nearest_strict, near_ge}
 use Rattle.angle.specs.Angle.{per_degree}
 use Rattle.reading.specs.Held.{most}
@@ -38,6 +39,15 @@ halves_are n d = div-div-eq-div-mul n 4096 (2 ^ d) ∙ ap (λ (x : ℕ). n / x) 
 pub left_is : (n d : ℕ) → n % (2 ^ d * 4096) ≡ n / 4096 % 2 ^ d * 4096 + n % 4096
 left_is n d = mod-mul n (pow_pos d) (lit< tt)
 
+-- what is to be returned, by what is worked out
+pub counted : (q d by : ℕ) → d < 64 →
+    2 * (q * by / (2 ^ d * 4096)) + min 1 (q * by % (2 ^ d * 4096))
+    ≡ 2 * ((q / 4096 * by + q % 4096 * by / 4096) / (1 * 2 ^ d % 18446744073709551616))
+    + min 1 ((q / 4096 * by + q % 4096 * by / 4096) % (1 * 2 ^ d % 18446744073709551616) + q % 4096 * by % 4096)
+counted q d by h =
+    rw (left_is (q * by) d, ← halves_are (q * by) d, ← high_is q by, shifted d h)
+    (omega (arith, low_is q by))
+
 -- digits * 2 ^ p / 2 ^ 1074 times `by`, where p leaves places behind the point
 steps : (p : ℕ) → p ≤ 1061 → 1 + (1061 - p + 12) + p ≡ 1074
 steps p h = omega arith
@@ -51,6 +61,17 @@ at_power q p by h =
     let j = 2 ^ (1061 - p) * 4096 in
     ap₂ (λ (x y : ℕ). nearest x y) (mul_right_comm q (2 ^ p) by) (sym (denominator p h))
     ∙ nearest_scale (q * by) (2 * j) (2 ^ p) (mul-pos {m = 2} (lit< tt) (mul-pos (pow_pos (1061 - p)) (lit< tt))) (pow_pos p)
+
+-- and by the quarters
+pub by_quarters : (q p by : ℕ) {m n : ℕ} → p ≤ 1061 →
+    m ≡ 2 * (q * by / (2 ^ (1061 - p) * 4096)) + min 1 (q * by % (2 ^ (1061 - p) * 4096)) → n ≡ nearest m 4 →
+    n ≡ nearest (q * 2 ^ p * by) (2 ^ 1074)
+by_quarters q p by h e f =
+    let j = 2 ^ (1061 - p) * 4096 in
+    f
+    ∙ ap (λ (n : ℕ). nearest n 4) e
+    ∙ nearest_halves (q * by) j (mul-pos (pow_pos (1061 - p)) (lit< tt))
+    ∙ sym (at_power q p by h)
 
 -- a product below 2 ^ 72 over 2 ^ 77 or more is less than a half
 pub tiny : (q p by : ℕ) → q < 2 ^ 53 → by ≤ per_degree → p ≤ 1061 → 64 ≤ 1061 - p → nearest (q * 2 ^ p * by) (2 ^ 1074) ≡ 0

@@ -1,15 +1,16 @@
 -- The value of a float, from its bits, and what is read of a float that has a known value.
-use mathlib.Core.Bool.{Bool, beq, true, false, cond, ◌||◌, or-false, or-true, true≢false}
-use mathlib.Core.Path.{◌≡◌, refl, sym, ap, ◌∙◌}
-use Prim.Native.Nat.{ℕ, zero, suc, ◌+◌, ◌*◌, ◌/◌, ◌%◌, ◌^◌, ◌≤◌, ◌<◌, zero-le}
+use mathlib.Core.Bool.{Bool, beq, true, false, cond, not, ◌||◌, or-false, or-true, true≢false}
+use mathlib.Core.Path.{◌≡◌, refl, sym, ap, subst, ◌∙◌}
+use Prim.Native.Nat.{ℕ, zero, suc, ◌+◌, ◌*◌, ◌/◌, ◌%◌, ◌^◌, ◌≤◌, ◌<◌, zero-le, min}
 use native.Mathlib.Nat.{mul-one, zero-mul, mul-zero, mul_right_comm, mul-pos, mul-le-mul_right, eq_of_mul-eq-mul_right}
 use native.Mathlib.Omega.{arith}
 use borrow.Author.Tests.{ltb-false}
-use lib.Dec.{leb, ltb, eqb, lit<}
+use lib.Dec.{T, leb, ltb, eqb, lit<}
 use lib.IntN.{pos, nat_abs}
 use lib.Pow.{pow_pos}
 use lib.Ieee as Ieee
 use lib.Ieee.{Float, nan, inf, fin, binary64, up, down, of_bits, of_fields, odd, round}
+use lib.Ieee.Bits.{of_bits-to_bits}
 use lib.Ieee.Fits.{down_pos}
 use lib.Ieee.Exact.{HasValue, odd_sign, round_exact}
 use lib.Ieee.Scale.{finite}
@@ -17,7 +18,8 @@ use Rattle.whole.specs.Nearest.{nearest}
 use Rattle.whole.specs.Signed.{with_sign}
 use Rattle.whole.proofs.Rounding.{near, nearest_same}
 use Rattle.whole.proofs.Scales.{near_le}
-use Rattle.whole.proofs.Signs.{nat_abs_sign}
+use Rattle.whole.proofs.Signs.{nat_abs_sign, on_sign}
+use Rattle.reading.specs.Held.{most, held}
 use Rattle.reading.specs.Reading.{read_of, outside}
 
 -- a float that has a value is read as that value is
@@ -78,6 +80,31 @@ read_bits k b f = go (b % 2 ^ 63 / 2 ^ 52) refl
         read_of k (of_bits binary64 b) ≡ with_sign (leb (2 ^ 63) b) (nat_abs (read_of k (of_bits binary64 b)))
     go zero e = from (b % 2 ^ 52 * 2 ^ 0) (subnormal b e)
     go (suc j) e = from ((2 ^ 52 + b % 2 ^ 52) * 2 ^ j) (normal b j e f)
+
+-- a float that is a number, its pattern, and what is held of it
+pub no_nan : (x : Float) → finite x ≡ true → T (not (Ieee.is_nan x))
+unfolding Ieee.is_nan
+no_nan nan h = absurd (true≢false (sym h))
+no_nan (inf s) h = tt
+no_nan (fin s m e) h = tt
+
+pub bits_back : (x : Float) → Ieee.fits binary64 x ≡ true → of_bits binary64 (Ieee.to_bits binary64 x) ≡ x
+bits_back x f = of_bits-to_bits binary64 x (subst T (sym f) tt)
+
+pub held_none : (k : ℕ) (x : Float) → finite x ≡ false → held (read_of k x) ≡ pos 0
+held_none k x h = ap held (read_none k x h)
+
+pub with_its_sign : (k : ℕ) (x : Float) {n : ℕ} → Ieee.fits binary64 x ≡ true → finite x ≡ true →
+    n ≡ min most (nat_abs (read_of k (of_bits binary64 (Ieee.to_bits binary64 x)))) →
+    with_sign (leb (2 ^ 63) (Ieee.to_bits binary64 x)) n ≡ held (read_of k x)
+with_its_sign k x f h e =
+    let b = Ieee.to_bits binary64 x in
+    let s = leb (2 ^ 63) b in
+    let back = bits_back x f in
+    ap (with_sign s) e
+    ∙ sym (on_sign (min most) refl s (nat_abs (read_of k (of_bits binary64 b))))
+    ∙ ap held (sym (read_bits k b (ap finite back ∙ h)))
+    ∙ ap (λ (x : Float). held (read_of k x)) back
 
 -- a float within n is read as a number within k n
 pub read_within : (n k : ℕ) (x : Float) → outside n x ≡ false → nat_abs (read_of k x) ≤ n * k

@@ -1,5 +1,5 @@
 -- The float nearest to n / den, read times den, is n again. It is less than a unit in its last place away from n / den, and
--- den times that is below a half. One law for every den: perDegree for degrees, 1 for map units.
+-- den times that is below a half. One law for every den: per_degree for degrees, 1 for map units.
 use mathlib.Core.Bool.{Bool, true, false}
 use mathlib.Core.Logic.{◌⊎◌, inl, inr}
 use mathlib.Core.Path.{◌≡◌, refl, sym, ap, ◌∙◌}

@@ -1,11 +1,13 @@
 // Reading a float: whether it is a number, how far it is from 0, and the whole number nearest to a multiple of it.
+#![tactic(auto)]
+
 ghost use Rattle.std.specs.Prelude.{true, ◌||◌, ◌≡◌, ◌+◌, ◌*◌, ◌/◌, ◌%◌, ◌^◌, ◌<◌, ◌≤◌, min, nat_abs};
 ghost use Rattle.std.specs.Float.{binary64};
 ghost use Rattle.std.specs.Float.Ieee.{of_bits, lt, neg};
-ghost use Rattle.std.specs.Float.Ieee.Scale.{finite as finiteOf};
-ghost use Rattle.whole.specs.Nearest.{nearest as nearestOf};
+ghost use Rattle.std.specs.Float.Ieee.Scale.{finite as finite_of};
+ghost use Rattle.whole.specs.Nearest.{nearest as nearest_of};
 ghost use Rattle.angle.specs.Angle.{per_degree};
-ghost use Rattle.reading.specs.Reading.{read_of, centiseconds as centisecondsOf, units as units_of};
+ghost use Rattle.reading.specs.Reading.{read_of, centiseconds as centiseconds_of, units as units_of};
 ghost use Rattle.reading.specs.Held.{most, held};
 
 use angle::Angle;
@@ -26,8 +28,9 @@ const MOST: u32 = 2147483647;
 const PER_DEGREE: u64 = Angle::PER_DEGREE as u64;
 
 // Whether x is neither NaN nor infinite: 0 times these is a NaN, which equals nothing.
+#[tactic(auto, using(crate::proofs::Floats::zero_times))]
 pub fn finite(x: f64) -> bool
-    ensures { result ≡ finiteOf x }
+    ensures { result ≡ finite_of x }
 {
     x * 0.0 == 0.0
 }
@@ -41,7 +44,7 @@ pub fn outside(x: f64, limit: f64) -> bool
 
 // Degrees as hundredths of an arcsecond.
 pub fn centiseconds(x: f64) -> i32
-    ensures { result ≡ held (centisecondsOf x) }
+    ensures { result ≡ held (centiseconds_of x) }
 {
     read(x, PER_DEGREE)
 }
@@ -54,9 +57,10 @@ pub fn units(x: f64) -> i32
 }
 
 // The whole number nearest to x times `by`, MOST at most either way; 0 where x is no number.
+#[tactic(auto, using(crate::proofs::Floats::held_none))]
 fn read(x: f64, by: u64) -> i32
-    requires fact_1 { 0 < by }
-    requires fact_2 { by ≤ per_degree }
+    requires by_above_zero { 0 < by }
+    requires by_within_degree { by ≤ per_degree }
     ensures { result ≡ held (read_of by x) }
 {
     if !finite(x) {
@@ -72,9 +76,9 @@ fn read(x: f64, by: u64) -> i32
 
 // The size of what is read from a pattern of bits.
 fn size_of(bits: u64, by: u64) -> u32
-    requires fact_1 { finiteOf (of_bits binary64 bits) ≡ true }
-    requires fact_2 { 0 < by }
-    requires fact_3 { by ≤ per_degree }
+    requires bits_finite { finite_of (of_bits binary64 bits) ≡ true }
+    requires by_above_zero { 0 < by }
+    requires by_within_degree { by ≤ per_degree }
     ensures { result ≡ min most (nat_abs (read_of by (of_bits binary64 bits))) }
 {
     let exponent = bits % SIGN / LEADING;
@@ -88,11 +92,11 @@ fn size_of(bits: u64, by: u64) -> u32
 
 // The whole number nearest to digits * 2^power / 2^1074 times `by`, MOST at most.
 fn scaled(digits: u64, power: u64, by: u64) -> u32
-    requires fact_1 { digits < 2 ^ 53 }
-    requires fact_2 { (0 < power → 2 ^ 52 ≤ digits) }
-    requires fact_3 { 0 < by }
-    requires fact_4 { by ≤ per_degree }
-    ensures { result ≡ min most (nearestOf (digits * 2 ^ power * by) (2 ^ 1074)) }
+    requires digits_fit { digits < 2 ^ 53 }
+    requires leading { 0 < power → 2 ^ 52 ≤ digits }
+    requires by_above_zero { 0 < by }
+    requires by_within_degree { by ≤ per_degree }
+    ensures { result ≡ min most (nearest_of (digits * 2 ^ power * by) (2 ^ 1074)) }
 {
     // From here up the number is at least 2^40.
     if power > 1061 {
@@ -109,10 +113,11 @@ fn scaled(digits: u64, power: u64, by: u64) -> u32
 
 // Twice the number of halves in digits * by / 2^(13 + drop), and 1 more where anything is left over: `nearest` decides a
 // half, so it must see whether there is more than that.
+#[tactic(auto, using(crate::proofs::Digits::counted))]
 fn quarters(digits: u64, drop: u64, by: u64) -> u64
-    requires fact_1 { digits < 2 ^ 53 }
-    requires fact_2 { drop < 64 }
-    requires fact_3 { by ≤ per_degree }
+    requires digits_fit { digits < 2 ^ 53 }
+    requires drop_fits { drop < 64 }
+    requires by_within_degree { by ≤ per_degree }
     ensures { result ≡ 2 * (digits * by / (2 ^ drop * 4096)) + min 1 (digits * by % (2 ^ drop * 4096)) }
 {
     let low = digits % PART * by;

@@ -1,6 +1,6 @@
 -- The terms of the series never grow, so that no difference of the series is cut at 0.
 use mathlib.Core.Path.{◌≡◌, refl}
-use Prim.Native.Nat.{ℕ, zero, suc, ◌+◌, ◌*◌, ◌-◌, ◌≤◌}
+use Prim.Native.Nat.{ℕ, zero, suc, ◌+◌, ◌*◌, ◌≤◌}
 use native.Mathlib.Nat.{le_refl, le_trans, mul-le-mul, mul-le-mul_left, mul_comm, div-le_of_le-mul, sub-le, sub-add_cancel}
 use native.Mathlib.Omega.{arith}
 use lib.Dec.{lit≤}

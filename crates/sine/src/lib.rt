@@ -1,5 +1,7 @@
 // The house sine: an entry for each arcminute from 0 to 90 degrees, in billionths, and between two entries the straight line.
 // Angles are in hundredths of an arcsecond.
+#![tactic(auto)]
+
 mod entry;
 
 ghost use Rattle.std.specs.Prelude.{◌≡◌};
@@ -12,6 +14,7 @@ use entry::entry_at;
 pub const BILLION: u32 = 1_000_000_000;
 
 // The cosine of p, which is the sine of 90 degrees less p; past 90 degrees it is 0.
+#[tactic(auto, using(crate::proofs::Sines::sine_first), unfolding(crate::specs::Sine::cosine_of))]
 pub fn cosine(p: u32) -> u32
     ensures { result ≡ cosine_of p }
 {
@@ -22,6 +25,7 @@ pub fn cosine(p: u32) -> u32
 }
 
 // The sine of c, rounded down between two entries; past 90 degrees it stays at one.
+#[tactic(auto, using(crate::proofs::Sines::sine_last), unfolding(crate::specs::Sine::sine_of, crate::specs::Sine::line))]
 pub fn sine(c: u32) -> u32
     ensures { result ≡ sine_of c }
 {

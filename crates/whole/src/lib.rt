@@ -1,12 +1,14 @@
 // Whole numbers: rounding to the nearest, the floor of a square root, and a signed number as its sign and its size.
+#![tactic(auto)]
+
 ghost use Rattle.std.specs.Prelude.{◌≡◌, ◌<◌};
-ghost use Rattle.whole.specs.Nearest.{carry as carryOf, nearest as nearestOf};
-ghost use Rattle.whole.specs.Root.{root as rootOf};
-ghost use Rattle.whole.specs.Signed.{split_of, join_of, plus as plusOf, minus as minusOf};
+ghost use Rattle.whole.specs.Nearest.{carry as carry_of, nearest as nearest_of};
+ghost use Rattle.whole.specs.Root.{root as root_of};
+ghost use Rattle.whole.specs.Signed.{split_of, join_of, plus as plus_of, minus as minus_of};
 
 // The whole number nearest to n / d; a quotient by 0 counts as 0.
 pub fn nearest(n: u64, d: u64) -> u64
-    ensures { result ≡ nearestOf n d }
+    ensures { result ≡ nearest_of n d }
 {
     if d == 0 {
         return 0;
@@ -17,9 +19,10 @@ pub fn nearest(n: u64, d: u64) -> u64
 
 // What is added to a quotient's floor q where r of d is left over: a half goes to the even neighbour, and only an even d has one. Where
 // d is a constant, so is d / 2, and one comparison is left.
+#[tactic(auto, using(crate::proofs::Rounding::carry_one, crate::proofs::Rounding::carry_none))]
 fn carry(q: u64, r: u64, d: u64) -> u64
     requires { r < d }
-    ensures { result ≡ carryOf q r d }
+    ensures { result ≡ carry_of q r d }
 {
     let odd = if d % 2 == 0 { q % 2 } else { 0 };
     if d / 2 < r + odd { 1 } else { 0 }
@@ -28,7 +31,7 @@ fn carry(q: u64, r: u64, d: u64) -> u64
 // The floor of the square root of n, by binary digits: shifts, sums, differences and comparisons alone. What was read of n so far is
 // q * q and a rest of at most 2 q, where q has the digits found; each turn reads two bits more.
 pub fn root(n: u64) -> u64
-    ensures { result ≡ rootOf n }
+    ensures { result ≡ root_of n }
 {
     // half the turns for a number of 32 bits; where there are always 32, the compiler writes them all out
     let mut bit: u64 = if n < 1 << 32 { 1 << 30 } else { 1 << 62 };
@@ -47,7 +50,7 @@ pub fn root(n: u64) -> u64
 }
 
 // A signed number as its sign and its size. 0 may have either sign.
-#[derive(Drop)]
+#[derive(Clone, Copy)]
 pub struct Signed {
     pub negative: bool,
     pub size: u32,
@@ -84,13 +87,13 @@ impl Signed {
 
     // The positive and the negative part: the number is the one less the other, and one of them is 0.
     pub fn plus(self) -> u64
-        ensures { result ≡ plusOf (join_of self) }
+        ensures { result ≡ plus_of (join_of self) }
     {
         if self.negative { 0 } else { self.size as u64 }
     }
 
     pub fn minus(self) -> u64
-        ensures { result ≡ minusOf (join_of self) }
+        ensures { result ≡ minus_of (join_of self) }
     {
         if self.negative { self.size as u64 } else { 0 }
     }
