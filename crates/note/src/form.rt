@@ -9,7 +9,7 @@ ghost use Rattle.note.specs.Form.{Sound};
 use little_endian::{get_whole, put_whole};
 
 // The mark's second byte, the bytes of a number, and the greatest sum of the two numbers.
-#[derive(Drop)]
+#[derive(Clone, Copy)]
 pub struct Form {
     pub mark: u8,
     pub width: usize,

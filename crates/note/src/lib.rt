@@ -1,4 +1,6 @@
 // The handover note: a session's two counts in bytes, behind a mark.
+#![tactic(auto)]
+
 mod answer;
 mod form;
 mod notes;

@@ -22,6 +22,7 @@ pub fn read_note(note: &[u8]) -> NoteCounts
     read_as(Form::narrow(), note)
 }
 
+#[tactic(auto, unfolding(crate::specs::Answer::written_as, parallel::specs::Refusal::unless))]
 fn write_as(form: Form, moved: u64, refused: u64, note: &mut [u8]) -> NoteAnswer
     requires { Sound form }
     ensures value { result ≡ answer_of (written_as form (moved, refused) (length note.old)) }
@@ -37,6 +38,7 @@ fn write_as(form: Form, moved: u64, refused: u64, note: &mut [u8]) -> NoteAnswer
     NoteAnswer::Accepted
 }
 
+#[tactic(auto, unfolding(crate::specs::Answer::read_as, parallel::specs::Refusal::unless))]
 fn read_as(form: Form, note: &[u8]) -> NoteCounts
     requires { Sound form }
     ensures { counts_meaning result ≡ read_as form note.now }

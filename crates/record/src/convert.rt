@@ -11,6 +11,7 @@ use little_endian::get;
 use projection::{Answer, forward, inverse};
 
 // Converts the record in `input` into `output`, or answers the first refusal that applies and leaves `output` as it is.
+#[tactic(auto, unfolding(crate::specs::Answer::convert_of, crate::specs::Answer::judged_of, crate::specs::Answer::output_after, parallel::specs::Refusal::unless))]
 pub fn convert_record(input: &[u8], output: &mut [u8]) -> Answer
     ensures result_value { meaning result ≡ convert_of input.now (length output.old) }
     ensures output_after { output.new ≡ output_after input.now output.old (convert_of input.now (length output.old)) }
@@ -26,6 +27,7 @@ pub fn convert_record(input: &[u8], output: &mut [u8]) -> Answer
 }
 
 // Whether bytes are a record that the rules convert.
+#[tactic(auto, unfolding(crate::specs::Answer::convertible))]
 pub fn converts(bytes: &[u8]) -> bool
     ensures { result ≡ convertible bytes.now }
 {
@@ -39,6 +41,7 @@ pub fn converts(bytes: &[u8]) -> bool
 }
 
 // What a record is answered by its own bytes.
+#[tactic(auto, unfolding(crate::specs::Answer::judged_of, parallel::specs::Refusal::unless))]
 fn judge(input: &[u8]) -> Answer
     requires { length input.now ≡ size }
     ensures { meaning result ≡ judged_of input.now }

@@ -1,4 +1,6 @@
 // The record of 16 bytes, converted from a lent piece into a lent piece.
+#![tactic(auto)]
+
 mod convert;
 mod layout;
 

@@ -1,4 +1,6 @@
 // Stored places of kinds 3 and 4, whose rows were exchanged: brought from the row that a kind had to the one that it has.
+#![tactic(auto)]
+
 mod place;
 mod records;
 

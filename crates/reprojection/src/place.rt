@@ -15,6 +15,7 @@ const WAGNER_VI: u8 = 4;
 
 // Brings the place of a record of kind 3 or 4 to its new row. What is no such record, or a place that the old row refuses, stays as
 // it is. The two rows differ in KX, a and b alone, which were exchanged: the row that a kind had is the other's now.
+#[tactic(auto, using(crate::proofs::Places::formerly_3, crate::proofs::Places::formerly_4), unfolding(crate::specs::Reprojected::reprojected))]
 pub fn reproject_record(bytes: &mut [u8])
     ensures { bytes.new ≡ reprojected bytes.old }
 {

@@ -8,7 +8,7 @@ use super::Session;
 use note::{NoteAnswer, NoteCounts, read_note, write_note};
 
 // The session after a note was to be restored, and what that is answered.
-#[derive(Drop)]
+#[derive(Clone, Copy)]
 pub struct Restored {
     pub session: Session,
     pub answer: NoteAnswer,

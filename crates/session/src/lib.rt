@@ -1,4 +1,6 @@
 // The session: a small state that each call takes by value and hands back, and that a note hands over.
+#![tactic(auto)]
+
 ghost use Rattle.std.specs.Prelude.{◌≡◌, ◌+◌, ◌<◌, length};
 ghost use Rattle.projection.specs.Answer.{meaning};
 ghost use Rattle.note.specs.Note.{cap};
@@ -14,14 +16,14 @@ mod handover;
 pub use handover::Restored;
 
 // Two counts, both 0 when opened: records that were converted, and records that were refused by other than 8 and 11.
-#[derive(Drop)]
+#[derive(Clone, Copy)]
 pub struct Session {
     pub moved: u64,
     pub refused: u64,
 }
 
 // The session after a call, and what the call is answered.
-#[derive(Drop)]
+#[derive(Clone, Copy)]
 pub struct Fed {
     pub session: Session,
     pub answer: Answer,
@@ -39,6 +41,7 @@ impl Session {
 
     // Converts the record in `input` into `output` and counts it, or answers the first refusal that applies and leaves
     // `output` as it is.
+    #[tactic(auto, unfolding(crate::specs::Session::feed_of, crate::specs::Session::session_after, record::specs::Answer::convert_of, record::specs::Answer::output_after, parallel::specs::Refusal::unless))]
     pub fn feed(self, input: &[u8], output: &mut [u8]) -> Fed
         ensures answer_value { meaning result.answer ≡ feed_of self input.now (length output.old) }
         ensures session_value { result.session ≡ session_after self (feed_of self input.now (length output.old)) }
@@ -75,6 +78,7 @@ impl Session {
     }
 
     // The session with one answer more, which is neither 8 nor 11.
+    #[tactic(auto, unfolding(crate::specs::Session::session_after))]
     fn with(self, answer: Answer) -> Session
         requires { (self.moved + self.refused < cap) × Counts (meaning answer) }
         ensures { result ≡ session_after self (meaning answer) }

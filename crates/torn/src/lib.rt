@@ -1,4 +1,6 @@
 // The records of a torn file: what is whole is taken, and what was skipped is listed.
+#![tactic(auto)]
+
 ghost use Rattle.std.specs.Prelude.{◌≡◌, length};
 ghost use Rattle.torn.specs.Pieces.{list_room, rooms_fit};
 ghost use Rattle.torn.specs.Answer.{salvage_of, records_after, list_after, meaning};
@@ -13,7 +15,7 @@ pub const MOST: usize = 65536;
 pub const MOST_LIST: usize = 8 * (MOST / 17) + 8;
 
 // How many records were taken and how many runs were skipped; or the number of the refusal.
-#[derive(Drop)]
+#[derive(Clone, Copy)]
 pub enum Salvaged {
     Counts(usize, usize),
     Refused(u8),
@@ -21,6 +23,7 @@ pub enum Salvaged {
 
 // Salvages a torn file: puts the taken records at the front of `records` and the list of the skipped runs at the front of `list`. Or
 // answers the first refusal of 23 and 24, and leaves both pieces as they are.
+#[tactic(auto, unfolding(crate::specs::Answer::salvage_of, crate::specs::Answer::records_after, crate::specs::Answer::list_after, parallel::specs::Refusal::unless))]
 pub fn salvage(input: &[u8], records: &mut [u8], list: &mut [u8]) -> Salvaged
     ensures result_value { meaning result ≡ salvage_of input.now (length records.old) (length list.old) }
     ensures records_after { records.new ≡ records_after input.now records.old (salvage_of input.now (length records.old) (length list.old)) }

@@ -55,7 +55,7 @@ fn put_record(records: &mut [u8], at: usize, taken: &[u8])
     requires { (length taken.now ≡ size) × (at + size ≤ length records.old) }
     ensures { Put records.old at taken.now (at + size) records.new }
 {
-    bytes::copy(taken, &mut records[at..at + SIZE]);
+    records[at..at + SIZE].copy_from_slice(taken);
 }
 
 // Lists the run from one place up to another, if there is one, behind `runs` others, and answers how many are listed then.
