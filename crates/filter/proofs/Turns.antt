@@ -8,10 +8,10 @@ use borrow.Author.Tests.{le-leb, leb-true}
 use lib.Dec.{eqb}
 use lib.IntN.{ℤ, pos, negsuc}
 use lib.ListN.{length, take, drop, length-append, length-take}
-use lib.Seq.{length-take-le}
-use Rattle.libc.specs.Io.{Moved}
+use lib.Seq.{length-take-le, take_at}
 use Rattle.record.specs.Record.{size}
-use Rattle.digits.specs.Put.{put_at, Put}
+use Rattle.digits.specs.Put.{put_at, put_front, Put}
+use Rattle.digits.proofs.Puts.{put_front_lem}
 use Rattle.torn.specs.Pieces.{most as longest}
 use Rattle.lines.specs.Line.{line_room}
 use Rattle.report.specs.Block.{most_number}
@@ -26,9 +26,10 @@ use Rattle.stream.specs.declared.state.State.{State}
 use Rattle.stream.specs.declared.state.Got.{Got}
 use Rattle.stream.specs.declared.state.Got.TheVariants.{Bytes, End, Interrupted, Failed}
 use Rattle.stream.specs.declared.step.Step.{Step}
-use Rattle.stream.specs.Run.{Standing, Read, came, ended, interrupted, failed, bytes_in, Turn, turned, go_on, after_read, after_write}
+use Rattle.stream.specs.Run.{Standing, Read, came, ended, interrupted, failed, bytes_in, Turn, offered, turned, go_on, after_read, after_write}
 use Rattle.stream.specs.Step.{eintr, got_of, got_by_error, bytes_of, with_room, read_in, standing, held_after, write_after, Follows, FollowsBy}
 use Rattle.stream.proofs.Steps.{write_stands, write_held, write_next, next_after, held_after_lem}
+use Rattle.filter.specs.Calls.{Moved}
 use Rattle.filter.specs.Turns.{records, most, held_most, Room, TurnsBy, left_in}
 
 -- ---- the room of a read
@@ -91,6 +92,12 @@ pub offered_there : {o text text' : List ℕ} {n : ℕ} → Put text 0 o n text'
 unfolding put_at
 offered_there {o} {text} {text'} {n} h = let l = length-append o (drop (0 + length o) text) in rw h.holds (omega (arith, h.behind))
 
+offered_front : {o text text' : List ℕ} {n : ℕ} → Put text 0 o n text' → take n text' ≡ o
+unfolding put_front
+offered_front {o} {text} h =
+    let (k, e) = put_front_lem h in
+    rw e (take_at o (drop (length o) text) _ (sym k))
+
 -- a job that goes on reading holds over what it may
 few_over : (job : Job) (n : ℕ) → takes_in job n ≡ true → waiting_in job n ≤ held_most job
 few_over Convert n e = omega arith
@@ -125,42 +132,68 @@ write_phase false state e = cc
 -- ---- a turn
 
 module _ (job : Job) (state : State) (before after text : List ℕ) (answer error : ℤ) (step : Step) (buffer' text' : List ℕ) (written : Bool) where
-  pub turns_by : (got : Got) (next : State) → Moved most answer → state.held ≤ held_most job → state.next + records ≤ most_number → Room after text →
-      length buffer' ≡ length after → standing state after ≡ standing state before → got ≡ got_of answer error →
-      Follows job state got after text step buffer' text' → next ≡ write_after written step.state →
-      TurnsBy job state before (record { state = next; answer = answer; error = error; written = written }) buffer'
-  turns_by got next m few small room same stays e f n =
-      let g : Got = got_of answer error in
-      let r : with_room job got state (length after) (length text) ≡ g =
+  -- what follows the read has room, and is what the run's read comes to
+  read_follows : (got : Got) → Moved most answer → state.held ≤ held_most job → state.next + records ≤ most_number → Room after text →
+      got ≡ got_of answer error → Follows job state got after text step buffer' text' →
+      FollowsBy job state (read_in (got_of answer error) (drop state.held after)) after text step buffer' text'
+  read_follows got m few small room e f =
+      let r : with_room job got state (length after) (length text) ≡ got_of answer error =
       ap (λ (x : Got). with_room job x state (length after) (length text)) e
       ∙ with_room_lem job answer error state (length after) (length text) m few small room.bytes room.lines in
+      rw r at f
+
+  -- with the bytes that stood behind those held over
+  pub turns_behind : (got : Got) (next : State) → Moved most answer → state.held ≤ held_most job → state.next + records ≤ most_number → Room after text →
+      length buffer' ≡ length after → standing state after ≡ standing state before → got ≡ got_of answer error →
+      Follows job state got after text step buffer' text' → next ≡ write_after written step.state →
+      (by : TurnsBy job state before (record { state = next; answer = answer; error = error; written = written }) buffer')
+      × (by.behind ≡ drop state.held after)
+  turns_behind got next m few small room same stays e f n =
+      let g : Got = got_of answer error in
       let read : Read = read_in g (drop state.held after) in
-      let i : FollowsBy job state read after text step buffer' text' = rw r at f in
-      let came-few = few_bytes g (drop state.held after) in
-      let came-most = few_came answer error m in
+      let i : FollowsBy job state read after text step buffer' text' = read_follows got m few small room e f in
+      let came_few = few_bytes g (drop state.held after) in
+      let came_most = few_came answer error m in
       let rest : length (take state.held after) ≡ state.held = length-take-le state.held after (omega (arith, held_few job, room.bytes)) in
       let numbers : step.state.next ≤ state.next + records =
       omega (
         arith,
         ap (λ (s : Standing). s.next) i.stands,
         next_after job (standing state after) read,
-        few_worked job (length (take state.held after)) (length (bytes_in read)) (omega (arith, rest, few)) (omega (arith, came-few, came-most)),
-      ) in
-      record {
-        behind = drop state.held after;
-        stands = rw n
-            (write_stands written step.state buffer'
-            ∙ ap (after_write written) (i.stands ∙ ap (λ (x : Standing). after_read job x read) stays));
-        few = λ p.
-            rw n
-            (rw (write_held written step.state, i.held)
-            (few_after job (standing state after) state.held read rest few
-            (sym (ap (λ (s : Standing). s.phase) i.stands) ∙ write_phase written step.state (sym (ap (λ (s : State). s.phase) n) ∙ p))));
-        inside = rw n
-            (rw (write_held written step.state, i.held, same)
-            (omega (arith, held_after_lem job state.held read, few, held_few job, came-few, came-most, room.bytes)));
-        numbered = rw n (rw (write_next written step.state) numbers);
-      }
+        few_worked job (length (take state.held after)) (length (bytes_in read)) (omega (arith, rest, few)) (omega (arith, came_few, came_most)),
+      ) in (
+        record {
+          behind = drop state.held after;
+          stands = rw n
+              (write_stands written step.state buffer'
+              ∙ ap (after_write written) (i.stands ∙ ap (λ (x : Standing). after_read job x read) stays));
+          few = λ p.
+              rw n
+              (rw (write_held written step.state, i.held)
+              (few_after job (standing state after) state.held read rest few
+              (sym (ap (λ (s : Standing). s.phase) i.stands) ∙ write_phase written step.state (sym (ap (λ (s : State). s.phase) n) ∙ p))));
+          inside = rw n
+              (rw (write_held written step.state, i.held, same)
+              (omega (arith, held_after_lem job state.held read, few, held_few job, came_few, came_most, room.bytes)));
+          numbered = rw n (rw (write_next written step.state) numbers);
+        },
+        refl,
+      )
+
+  pub turns_by : (got : Got) (next : State) → Moved most answer → state.held ≤ held_most job → state.next + records ≤ most_number → Room after text →
+      length buffer' ≡ length after → standing state after ≡ standing state before → got ≡ got_of answer error →
+      Follows job state got after text step buffer' text' → next ≡ write_after written step.state →
+      TurnsBy job state before (record { state = next; answer = answer; error = error; written = written }) buffer'
+  turns_by got next m few small room same stays e f n = (turns_behind got next m few small room same stays e f n).0
+
+  -- what is to be written after it
+  pub offered_is : (got : Got) → Moved most answer → state.held ≤ held_most job → state.next + records ≤ most_number → Room after text →
+      standing state after ≡ standing state before → got ≡ got_of answer error → Follows job state got after text step buffer' text' →
+      take step.offered text' ≡ offered job (standing state before) (read_in (got_of answer error) (drop state.held after))
+  offered_is got m few small room stays e f =
+      let read : Read = read_in (got_of answer error) (drop state.held after) in
+      let i : FollowsBy job state read after text step buffer' text' = read_follows got m few small room e f in
+      offered_front i.offers ∙ ap (λ (s : Standing). offered job s read) stays
 
 -- ---- the turns that are left
 
@@ -194,3 +227,8 @@ left_le TooLong left = omega arith
 pub goes_on : (job : Job) (s s' : Standing) (turn : Turn) → s ≡ s' → s.phase ≡ Reading →
     turned job s turn ≡ go_on s'.phase s' (turned job s' turn)
 goes_on job s s' turn e reading = rw (← e, reading)
+
+-- where a turn leads from there
+pub goes_on_to : (job : Job) (s s' s'' : Standing) (turn : Turn) → s'' ≡ turned job s turn → s ≡ s' → s.phase ≡ Reading →
+    s'' ≡ go_on s'.phase s' (turned job s' turn)
+goes_on_to job s s' s'' turn t e reading = t ∙ goes_on job s s' turn e reading

@@ -1,4 +1,7 @@
 // Programs that read standard input and write standard output: one loop, for every job.
+#![tactic(auto)]
+
+mod calls;
 mod message;
 mod turn;
 

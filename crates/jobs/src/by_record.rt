@@ -10,6 +10,7 @@ use record::SIZE;
 use reprojection::reproject_records;
 
 // Puts the whole records of the input, reprojected, at the front of the text.
+#[tactic(auto, using(lines::proofs::Buffers::too_short))]
 pub(crate) fn reproject_block(input: &[u8], text: &mut [u8]) -> Text
     ensures { Placed (leb (size * records_in input.now) (length text.old)) (whole_reprojected input.now) text.old result text.new }
 {
@@ -17,17 +18,19 @@ pub(crate) fn reproject_block(input: &[u8], text: &mut [u8]) -> Text
     if text.len() < whole {
         return Text::TooShort;
     }
-    bytes::copy(&input[..whole], text);
+    text[..whole].copy_from_slice(&input[..whole]);
     reproject_records(&mut text[..whole]);
     Text::Bytes(whole)
 }
 
 // Puts bytes as they are at the front of the text.
+#[tactic(auto, using(lines::proofs::Buffers::too_short))]
 pub(crate) fn copy(input: &[u8], text: &mut [u8]) -> Text
     ensures { Placed (leb (length input.now) (length text.old)) input.now text.old result text.new }
 {
     if text.len() < input.len() {
         return Text::TooShort;
     }
-    Text::Bytes(bytes::copy(input, text))
+    text[..input.len()].copy_from_slice(input);
+    Text::Bytes(input.len())
 }

@@ -1,4 +1,6 @@
 // What the programs make of what they read: each is a job.
+#![tactic(auto)]
+
 ghost use Rattle.std.specs.Prelude.{length};
 ghost use Rattle.lines.specs.Buffer.{Placed};
 ghost use Rattle.jobs.specs.Job.{ending_of, end_fits, Works};
@@ -15,7 +17,7 @@ mod whole_input;
 
 pub use room::{has_room, takes, waiting, worked};
 
-#[derive(Drop)]
+#[derive(Clone, Copy)]
 pub enum Job {
     Convert,
     Reproject,
@@ -24,6 +26,7 @@ pub enum Job {
 
 // Works on the whole records of the input, of which the first has the number `next`, and puts what is to be written of them at the
 // front of the text. Where that does not fit, nothing is worked on.
+#[tactic(auto, unfolding(crate::specs::Job::session_of, crate::specs::Job::block_of))]
 pub fn work(job: Job, session: Session, next: u64, input: &[u8], text: &mut [u8]) -> Block
     ensures { Works job session next input.now text.old result text.new }
 {
@@ -41,6 +44,7 @@ pub fn work(job: Job, session: Session, next: u64, input: &[u8], text: &mut [u8]
 }
 
 // Puts what is to be written at the end of the input at the front of the text.
+#[tactic(auto, unfolding(crate::specs::Job::ending_of))]
 pub fn finish(job: Job, session: Session, next: u64, rest: &[u8], text: &mut [u8]) -> Text
     ensures { Placed (end_fits job rest.now (length text.old)) (ending_of job session next rest.now) text.old result text.new }
 {

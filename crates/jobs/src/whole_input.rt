@@ -9,6 +9,7 @@ use record::SIZE;
 use torn::{MOST, MOST_LIST, Salvaged, list_room, salvage};
 
 // Puts the taken records of a torn file at the front of the text; of one that is too long, nothing.
+#[tactic(auto, using(lines::proofs::Buffers::too_short))]
 pub(crate) fn put_taken(input: &[u8], text: &mut [u8]) -> Text
     ensures { Placed (leb (length input.now) (length text.old)) (salvaged_of input.now) text.old result text.new }
 {

@@ -48,7 +48,7 @@ put_none l = record { behind = refl; holds = refl }
 pub placed : {l l' text : List ℕ} {end : ℕ} {fits : Bool} → fits ≡ true → Put l 0 text end l' → Placed fits text l (Bytes end) l'
 placed e p = let (n, h) = put_front_lem p in record { counted = rw (e, n); holds = rw e h }
 
--- what `bytes::copy` copies stands at the front, and is put there
+-- text that is copied to the front of a buffer stands there, and is put there
 pub copied : (l text : List ℕ) {l' : List ℕ} → l' ≡ take (length text) text ++ drop (length text) l → l' ≡ put_front l text
 unfolding put_front
 copied l text e = rw (take-length text) at e

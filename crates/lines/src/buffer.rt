@@ -3,13 +3,14 @@ ghost use Rattle.std.specs.Prelude.{[], ◌∷◌, ◌+◌, ◌≤◌, ◌<◌, 
 ghost use Rattle.digits.specs.Put.{Put};
 
 // How many bytes of text stand at the front of a buffer; or that the buffer is too short, and as it was.
-#[derive(Drop)]
+#[derive(Clone, Copy)]
 pub enum Text {
     Bytes(usize),
     TooShort,
 }
 
 // Puts a byte at a place, and answers the place behind it.
+#[tactic(auto, using(digits::proofs::Puts::put_byte))]
 pub(crate) fn put_byte(text: &mut [u8], at: usize, byte: u8) -> usize
     requires { at < length text.old }
     ensures { Put text.old at (byte ∷ []) result text.new }

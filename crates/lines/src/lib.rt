@@ -1,4 +1,6 @@
 // Text: the line of an answer, the closing line of a session, and a line of two words with a number behind each.
+#![tactic(auto)]
+
 mod buffer;
 mod decimal;
 mod line;

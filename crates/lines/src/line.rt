@@ -22,6 +22,7 @@ pub const CLOSING_ROOM: usize = 56;
 const NUMBERS_ROOM: usize = 41;
 
 // Puts the line of the answer to the record of this number at the front of the text.
+#[tactic(auto, using(crate::proofs::Buffers::too_short))]
 pub fn answer_line(number: u64, answer: Answer, text: &mut [u8]) -> Text
     ensures { Placed (leb line_room (length text.old)) (line_of number (meaning answer)) text.old result text.new }
 {
@@ -33,6 +34,7 @@ pub fn answer_line(number: u64, answer: Answer, text: &mut [u8]) -> Text
 }
 
 // Puts the closing line of a session at the front of the text.
+#[tactic(auto, using(crate::proofs::Buffers::too_short))]
 pub fn closing_line(session: Session, text: &mut [u8]) -> Text
     ensures { Placed (leb closing_room (length text.old)) (closing_of session) text.old result text.new }
 {
@@ -44,6 +46,7 @@ pub fn closing_line(session: Session, text: &mut [u8]) -> Text
 }
 
 // Puts the line of two words, each with a whole number behind it, at the front of the text.
+#[tactic(auto, using(crate::proofs::Buffers::too_short))]
 pub fn named_line(first: &[u8], m: u64, second: &[u8], n: u64, text: &mut [u8]) -> Text
     ensures { Placed (leb (named_room (length first.now) (length second.now)) (length text.old)) (named first.now m ++ (named second.now n ++ line_feed)) text.old result text.new }
 {

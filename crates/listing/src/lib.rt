@@ -1,4 +1,6 @@
 // What the program `salvage` says of a torn file.
+#![tactic(auto)]
+
 ghost use Rattle.std.specs.Prelude.{true, length};
 ghost use Rattle.lines.specs.Buffer.{Placed};
 ghost use Rattle.listing.specs.Listing.{listing_of, listing_fits};
@@ -15,6 +17,7 @@ mod runs;
 const LISTING_ROOM: usize = 23 * (MOST_LIST / RUN) + 55;
 
 // Puts a line for each skipped run of the input, and the closing line with both counts, at the front of the text.
+#[tactic(auto, using(lines::proofs::Buffers::too_short))]
 pub fn listing(input: &[u8], text: &mut [u8]) -> Text
     ensures { Placed (listing_fits input.now (length text.old)) (listing_of input.now) text.old result text.new }
 {

@@ -24,6 +24,7 @@ pub(crate) fn all_lines(list: &[u8], taken: usize, runs: usize, text: &mut [u8])
 }
 
 // Puts the lines of the runs likewise.
+#[tactic(auto, using(crate::proofs::Turns::begin, crate::proofs::Turns::turn, crate::proofs::Turns::finish))]
 fn run_lines(list: &[u8], runs: usize, text: &mut [u8]) -> usize
     requires { Lent list.now runs text.old }
     ensures put { Put text.old 0 (run_lines (runs_in list.now 0 runs)) result text.new }

@@ -17,7 +17,7 @@ const NOTE: u8 = b'r';
 // The most numbers that a request has.
 const MOST: usize = 4;
 
-#[derive(Drop)]
+#[derive(Clone, Copy)]
 pub struct Line {
     pub letter: u8,
     pub numbers: [Number; MOST],

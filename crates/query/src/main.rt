@@ -5,6 +5,8 @@
 // are in hundredths of an arcsecond; CENTRAL is the central meridian. 'F' and 'I' ask the same as 'f' and 'i' on floats, in
 // degrees; a float is given and answered by its 64 bits, an 'x' and hexadecimal digits. All other numbers are decimal. TEXT and
 // NOTE are all that stands behind the letter and one space; a note is given and answered by two hexadecimal digits to a byte.
+#![tactic(auto)]
+
 mod answers;
 mod line;
 mod note_byte;
@@ -15,47 +17,55 @@ mod values;
 mod writing;
 
 use answers::answer;
-use libc::{STDERR_FILENO, STDIN_FILENO};
 use line::{Line, NONE};
+use std::io;
+use std::io::Read;
 
-fn main() {
-    let mut space = io::large_buffer();
+// The bytes of a read.
+const SPACE: usize = 65536;
+
+fn main(rt: HostRuntime) {
+    // A write that fails ends the run, and is not reported.
+    let _ = run(&rt);
+}
+
+// Answers the requests of standard input, to its end.
+fn run(rt: &HostRuntime) -> io::Result<()> {
+    let mut input = rt.stdin();
+    let mut space = [0; SPACE];
     let mut line = Line::new();
-    // A count that falls, so that the loop ends.
-    let mut turns = u64::MAX;
-    while 0 < turns {
-        let got = libc::read(STDIN_FILENO, &mut space);
-        if got < 0 {
-            io::write_all(STDERR_FILENO, b"query: standard input cannot be read\n");
+    // A count, so that the loop ends.
+    for _ in 0..u64::MAX {
+        match input.read(&mut space) {
+            Ok(0) => break,
+            Ok(n) => line = answer_all(rt, line, &space[..n])?,
             // What is left may be a part of a request, and is not answered.
-            line = Line::new();
+            Err(_) => return eprintln!(rt; "query: standard input cannot be read"),
         }
-        let n = io::count(got, &space);
-        line = answer_all(line, &space[..n]);
-        turns = if n == 0 { 0 } else { turns - 1 };
     }
     if line.letter != NONE {
-        answer_line(line);
+        answer_line(rt, line)?;
     }
+    Ok(())
 }
 
 // Answers each line that ends in the bytes; the line left over goes on with the next bytes.
-fn answer_all(line: Line, bytes: &[u8]) -> Line {
+fn answer_all(out: &impl Print, line: Line, bytes: &[u8]) -> io::Result<Line> {
     let mut line = line;
     for i in 0..bytes.len() {
         let byte = bytes[i];
         if byte == b'\n' {
-            answer_line(line);
+            answer_line(out, line)?;
             line = Line::new();
         } else {
             line = line.with_byte(byte);
         }
     }
-    line
+    Ok(line)
 }
 
 // Answers a line that has ended.
-fn answer_line(line: Line) {
+fn answer_line(out: &impl Print, line: Line) -> io::Result<()> {
     let text = line.text;
-    answer(line.request(), text);
+    answer(out, line.request(), text)
 }

@@ -1,7 +1,7 @@
 // A byte of a line's note, read a digit at a time: two hexadecimal digits, the higher one first.
 use super::number::digit_of;
 
-#[derive(Drop)]
+#[derive(Clone, Copy)]
 pub struct NoteByte {
     // What the last two digits count.
     pub value: u8,

@@ -5,7 +5,7 @@ ghost use Rattle.std.specs.Prelude.{◌<◌};
 // The most digits of a float: those of 64 bits.
 const MOST_DIGITS: u8 = 16;
 
-#[derive(Drop)]
+#[derive(Clone, Copy)]
 pub struct Number {
     pub negative: bool,
     // Without the sign; past 64 bits the largest that they hold.

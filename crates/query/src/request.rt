@@ -2,7 +2,7 @@
 use super::number::Number;
 use super::values::{float, narrow, narrow_kind};
 
-#[derive(Drop)]
+#[derive(Clone, Copy)]
 pub enum Request {
     // The half-width of a parallel: kind and latitude.
     Width(u8, i32),

@@ -6,7 +6,7 @@ use shape::SIZE;
 // note that can be read is shorter.
 const KEPT: usize = SIZE + 1;
 
-#[derive(Drop)]
+#[derive(Clone, Copy)]
 pub struct Text {
     // Its first bytes.
     pub bytes: [u8; KEPT],

@@ -11,7 +11,7 @@ use record::SIZE;
 use session::Session;
 
 // What a block came to: the session after it, and its lines.
-#[derive(Drop)]
+#[derive(Clone, Copy)]
 pub struct Block {
     pub session: Session,
     pub text: Text,

@@ -1,4 +1,6 @@
 // The lines of a run of records, and what is printed at the end of a stream of them.
+#![tactic(auto)]
+
 mod block;
 mod ending;
 

@@ -19,7 +19,7 @@ use Rattle.jobs.proofs.Jobs.{waiting_length}
 use Rattle.stream.specs.declared.state.Phase.TheVariants.{Ended, NotRead}
 use Rattle.stream.specs.declared.state.State.{State}
 use Rattle.stream.specs.declared.state.Got.{Got}
-use Rattle.stream.specs.declared.state.Got.TheVariants.{Bytes as Some, End, Interrupted, Failed}
+use Rattle.stream.specs.declared.state.Got.TheVariants.{Bytes as SomeBytes, End, Interrupted, Failed}
 use Rattle.stream.specs.declared.step.Step.{Step}
 use Rattle.stream.specs.Run.{Standing, Read, came, ended, interrupted, failed, bytes_in, offered, after_read, after_write}
 use Rattle.stream.specs.Step.{bytes_of, with_room, held_after, standing, write_after}
@@ -29,7 +29,7 @@ use Rattle.stream.specs.Inside.{Ready, TakesIn, FollowsIn}
 
 ready_if : (job : Job) (got : Got) (state : State) (buffer text : ℕ) → let count = state.held + bytes_of got in
     count ≤ buffer → room_for job state.next count text ≡ true → Ready job got state buffer text
-ready_if job (Some n) state buffer text a b = (a, b)
+ready_if job (SomeBytes n) state buffer text a b = (a, b)
 ready_if job End state buffer text a b = let e = add-zero state.held in (rw e at a, rw e at b)
 ready_if job Interrupted state buffer text a b = tt
 ready_if job Failed state buffer text a b = tt
@@ -50,7 +50,7 @@ ready job got state buffer text = go (leb count buffer) (room_for job state.next
 
 module _ (job : Job) (state : State) (buffer text : List ℕ) where
   pub follows_bytes : (n : ℕ) (r : Step) (buffer' text' : List ℕ) → state.held + n ≤ length buffer →
-      TakesIn job state (state.held + n) buffer text r buffer' text' → FollowsIn job state (Some n) buffer text r buffer' text'
+      TakesIn job state (state.held + n) buffer text r buffer' text' → FollowsIn job state (SomeBytes n) buffer text r buffer' text'
   unfolding after_read offered put_front
   follows_bytes n r buffer' text' h d =
       let s : List ℕ = take (state.held + n) buffer in

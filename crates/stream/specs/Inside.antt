@@ -7,7 +7,7 @@ use Rattle.jobs.specs.declared.Job.{Job}
 use Rattle.jobs.specs.Job.{block_of, session_of, worked_in, waiting_in, waiting_of, room_for}
 use Rattle.stream.specs.declared.state.State.{State}
 use Rattle.stream.specs.declared.state.Got.{Got}
-use Rattle.stream.specs.declared.state.Got.TheVariants.{Bytes as Some, End, Interrupted, Failed}
+use Rattle.stream.specs.declared.state.Got.TheVariants.{Bytes as SomeBytes, End, Interrupted, Failed}
 use Rattle.stream.specs.declared.step.Step.{Step}
 use Rattle.stream.specs.Run.{phase_with}
 use Rattle.stream.specs.Step.{read_in, FollowsBy}
@@ -35,7 +35,7 @@ abbrev pub HasRoom : Job → State → ℕ → ℕ → ℕ → Type 0
 HasRoom job state n buffer text = (n ≤ buffer) × (room_for job state.next n text ≡ true)
 
 abbrev pub Ready : Job → Got → State → ℕ → ℕ → Type 0
-Ready job (Some n) state buffer text = HasRoom job state (state.held + n) buffer text
+Ready job (SomeBytes n) state buffer text = HasRoom job state (state.held + n) buffer text
 Ready job End state buffer text = HasRoom job state state.held buffer text
 Ready job Interrupted state buffer text = Unit {0}
 Ready job Failed state buffer text = Unit {0}

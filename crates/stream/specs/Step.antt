@@ -6,7 +6,7 @@ use Rattle.jobs.specs.Job.{waiting_in, room_for}
 use Rattle.stream.specs.declared.state.Phase.TheVariants.{NotWritten}
 use Rattle.stream.specs.declared.state.State.{State}
 use Rattle.stream.specs.declared.state.Got.{Got}
-use Rattle.stream.specs.declared.state.Got.TheVariants.{Bytes as Some, End, Interrupted, Failed}
+use Rattle.stream.specs.declared.state.Got.TheVariants.{Bytes as SomeBytes, End, Interrupted, Failed}
 use Rattle.stream.specs.declared.step.Step.{Step}
 use Rattle.stream.specs.Run.{Standing, Read, came, ended, interrupted, failed, offered, after_read}
 
@@ -25,18 +25,18 @@ got_by_error (pos n) = cond (eqb n eintr) Interrupted Failed
 got_by_error (negsuc n) = Failed
 
 abbrev pub got_of : ℤ → ℤ → Got
-got_of (pos n) error = cond (eqb n 0) End (Some n)
+got_of (pos n) error = cond (eqb n 0) End (SomeBytes n)
 got_of (negsuc n) error = got_by_error error
 
 abbrev pub bytes_of : Got → ℕ
-bytes_of (Some n) = n
+bytes_of (SomeBytes n) = n
 bytes_of End = 0
 bytes_of Interrupted = 0
 bytes_of Failed = 0
 
 -- the run's read, whose bytes stand behind those held over
 abbrev pub read_in : Got → List ℕ → Read
-read_in (Some n) behind = came (take n behind)
+read_in (SomeBytes n) behind = came (take n behind)
 read_in End behind = ended
 read_in Interrupted behind = interrupted
 read_in Failed behind = failed

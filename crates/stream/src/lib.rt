@@ -1,4 +1,6 @@
 // What a program makes of a stream of bytes that it reads in pieces: where it stands after each read and each write.
+#![tactic(auto)]
+
 mod front;
 mod room;
 mod state;

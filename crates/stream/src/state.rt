@@ -6,7 +6,7 @@ ghost use Rattle.stream.specs.Step.{got_of, got_by_error};
 use session::Session;
 
 // Only `Ended` says that all was read and written.
-#[derive(Drop)]
+#[derive(Clone, Copy)]
 pub enum Phase {
     Reading,
     Ended,
@@ -17,7 +17,7 @@ pub enum Phase {
 }
 
 // The session, the number of the next record, how many bytes are held over at the front of the buffer, and the phase.
-#[derive(Drop)]
+#[derive(Clone, Copy)]
 pub struct State {
     pub session: Session,
     pub next: u64,
@@ -26,13 +26,16 @@ pub struct State {
 }
 
 // What a read came to.
-#[derive(Drop)]
+#[derive(Clone, Copy)]
 pub enum Got {
     Bytes(usize),
     End,
     Interrupted,
     Failed,
 }
+
+// The number of the error of a call that a signal interrupted.
+const EINTR: i32 = 4;
 
 // The phase that a run begins in, by how many arguments the program has, its own name counted with them.
 pub fn phase_at_start(arguments: usize) -> Phase
@@ -61,7 +64,7 @@ pub fn got_of(answer: isize, error: i32) -> Got
 fn by_error(error: i32) -> Got
     ensures { result ≡ got_by_error error }
 {
-    if error == libc::EINTR {
+    if error == EINTR {
         return Got::Interrupted;
     }
     Got::Failed

@@ -12,7 +12,7 @@ use jobs::{Job, finish, takes, waiting, work, worked};
 use lines::Text;
 
 // The state after a read, and how many bytes of the text are to be written.
-#[derive(Drop)]
+#[derive(Clone, Copy)]
 pub struct Step {
     pub state: State,
     pub offered: usize,
