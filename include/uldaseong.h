@@ -1,6 +1,6 @@
 /*
  * Uldaseong: map projections in whole numbers, proved. Longitude and latitude become places on a world map and come back, for
- * twelve atlas projections. Link target/staticlib/libuldaseong.a, which `rt staticlib uldaseong` builds for x86-64.
+ * twelve atlas projections. Link target/staticlib/libuldaseong.a, which tests/build makes for x86-64.
  *
  * Every function answers every input. It returns 0 where it did what was asked, and else the number of the refusal:
  *

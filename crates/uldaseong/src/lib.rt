@@ -1,9 +1,18 @@
 // The C interface: forward and inverse on numbers, floats and records, positions as text, a session's handover note, and the salvage
-// of a torn record file, as functions of C, for a static library. A function returns 0 where it did what was asked, and else the
-// refusal's number; then no lent pair, no lent piece, no text, no note and no restored session has changed.
+// of a torn record file, as functions of C, which `uldaseong_c` exports from a static library. A function returns 0 where it did what
+// was asked, and else the refusal's number; then no lent pair, no lent piece, no text, no note and no restored session has changed.
+#![tactic(auto)]
+
 mod floats;
 mod notes;
 mod numbers;
 mod records;
 mod texts;
 mod torn_files;
+
+pub use floats::{uldaseong_forward_degrees, uldaseong_inverse_degrees};
+pub use notes::{uldaseong_restore, uldaseong_save};
+pub use numbers::{uldaseong_forward, uldaseong_inverse};
+pub use records::{uldaseong_convert_record, uldaseong_feed};
+pub use texts::{uldaseong_read_text, uldaseong_write_text};
+pub use torn_files::uldaseong_salvage;

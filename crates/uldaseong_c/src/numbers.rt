@@ -1,0 +1,32 @@
+// Forward and inverse on whole numbers.
+ghost use Rattle.std.specs.Prelude.{◌≡◌};
+ghost use Rattle.projection.specs.Answer.{forward_of, inverse_of};
+ghost use Rattle.uldaseong.specs.Status.{status_of, pair_after};
+
+#[unsafe(no_mangle)]
+pub extern "C" fn uldaseong_forward(
+    kind: u8,
+    central: i32,
+    longitude: i32,
+    latitude: i32,
+    place: &mut [i32; 2],
+) -> u8
+    ensures value { result ≡ status_of (forward_of kind central longitude latitude) }
+    ensures place_after { place.new ≡ pair_after place.old (forward_of kind central longitude latitude) }
+{
+    uldaseong::uldaseong_forward(kind, central, longitude, latitude, place)
+}
+
+#[unsafe(no_mangle)]
+pub extern "C" fn uldaseong_inverse(
+    kind: u8,
+    central: i32,
+    x: i32,
+    y: i32,
+    position: &mut [i32; 2],
+) -> u8
+    ensures value { result ≡ status_of (inverse_of kind central x y) }
+    ensures position_after { position.new ≡ pair_after position.old (inverse_of kind central x y) }
+{
+    uldaseong::uldaseong_inverse(kind, central, x, y, position)
+}
