@@ -78,6 +78,6 @@ printing =
       counts = session_of_history;
       document = rw (moved_in_lem 0 refl);
       empty = refl;
-      fourth = rw (moved_in_lem 0 refl, moved_in_lem 1 refl, moved_in_lem 2 refl, refused_in_lem 3 refl);
-      torn = rw (moved_in_lem 0 refl, torn_in 1);
+      fourth = simp (moved_in_lem 0 refl, moved_in_lem 1 refl, moved_in_lem 2 refl, refused_in_lem 3 refl);
+      torn = simp (moved_in_lem 0 refl, torn_in 1);
     }

@@ -1,4 +1,6 @@
 // What the product claims, in one contract: the crate is proved only while each claim has its proof.
+#![tactic(auto)]
+
 ghost use Rattle.claims.specs.Arithmetic.{Arithmetic};
 ghost use Rattle.claims.specs.CosineKinds.{CosineKinds};
 ghost use Rattle.claims.specs.Demands.{Demands};

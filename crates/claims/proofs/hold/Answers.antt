@@ -80,8 +80,7 @@ use Rattle.claims.proofs.Exchanges.{exchange, reprojection_examples}
 use Rattle.claims.proofs.Following.{reprojection}
 use Rattle.claims.proofs.ReprojectedRuns.{reprojected_runs}
 use Rattle.claims.proofs.SalvagedRuns.{salvaged_runs}
-use Rattle.claims.proofs.hold.Statement.{statement}
-use Rattle.claims.proofs.hold.Tie as tie
+use Rattle.claims.proofs.hold.Goals as goal
 
 parallel : (r : Row) (p : ℕ) → Usable r p → Parallel r p
 unfolding radicand numerator combined
@@ -94,9 +93,9 @@ parallel r p u =
       ky_high = u.columns.ky_high;
     }
 
-kind-in : (kind : ℕ) → (1 ≤ kind) × (kind ≤ 12) → T (is_kind kind)
+kind_in_range : (kind : ℕ) → (1 ≤ kind) × (kind ≤ 12) → T (is_kind kind)
 unfolding is_kind rows
-kind-in kind h = rw (le-leb 1 kind h.0) (le→leb kind 12 h.1)
+kind_in_range kind h = rw (le-leb 1 kind h.0) (le→leb kind 12 h.1)
 
 -- the numbers of a position's or a place's order, as a record's form says
 pair_numbers : (bytes : List ℕ) → numbers_of (pair_order bytes) ≡ 1 ∷ 3 ∷ by_form (form_in bytes)
@@ -112,7 +111,7 @@ refusals : Demand1
 unfolding width_of forward_of inverse_of forward_degrees inverse_degrees convert_of feed_of output_after read_text write_text written_as salvage_of rows
 refusals =
     record {
-      kinds = λ kind. (kind_range kind, kind-in kind);
+      kinds = λ kind. (kind_range kind, kind_in_range kind);
       half_width_lem = λ kind f. ordered (width_order kind f) (half_width (row_of kind) (nat_abs f)) refl;
       forward = λ kind c l f. ordered (forward_order kind c l f) (place_of (row_of kind) c l f) refl;
       inverse = λ kind c x y. ordered (inverse_order kind c x y) (position_of (row_of kind) c x y) refl;
@@ -139,7 +138,7 @@ usable kind p t h = record { columns = columns kind t; latitude = h }
 half_widths : Demand2
 half_widths =
     record {
-      bound = λ kind p g h l. within_one (row_of kind) p (usable kind p (kind-in kind (g, omega arith)) l) (one_is_m kind g h);
+      bound = λ kind p g h l. within_one (row_of kind) p (usable kind p (kind_in_range kind (g, omega arith)) l) (one_is_m kind g h);
       parallels = λ kind p t h. parallel (row_of kind) p (usable kind p t h);
     }
 
@@ -165,22 +164,22 @@ demands =
       histories = histories;
     }
 
-degrees-written : (z : ℤ) → nat_abs z ≤ N → DegreesBack z
-degrees-written z h =
+degrees_written : (z : ℤ) → nat_abs z ≤ N → DegreesBack z
+degrees_written z h =
     let s = degrees_stand z (omega arith) in
     record { is_finite = s.is_finite; within_180 = s.stays 180 h; within_90 = s.stays 90; same = s.reads }
 
-units-exact : (z : ℤ) → nat_abs z ≤ 2 ^ 31 → HasValue (units_of z) (split_of z).negative (nat_abs z) 1
+units_exact : (z : ℤ) → nat_abs z ≤ 2 ^ 31 → HasValue (units_of z) (split_of z).negative (nat_abs z) 1
 unfolding units_of of_int
-units-exact (pos n) h = round_whole binary64 false n (omega arith)
-units-exact (negsuc n) h = round_whole binary64 true (suc n) (omega arith)
+units_exact (pos n) h = round_whole binary64 false n (omega arith)
+units_exact (negsuc n) h = round_whole binary64 true (suc n) (omega arith)
 
 written : Written
 unfolding degrees_of units_of of_int div round
 written =
     record {
-      degrees = degrees-written;
-      places = λ z h. record { exact = units-exact z h; same = (units_stand z (omega arith)).reads };
+      degrees = degrees_written;
+      places = λ z h. record { exact = units_exact z h; same = (units_stand z (omega arith)).reads };
       zero_degrees = refl;
       zero_units = refl;
     }
@@ -192,11 +191,11 @@ worked = record { numbers = refl; values = refl }
 mirrored : (z : ℤ) (d : ℕ) → nearest_signed (neg_ℤ z) d ≡ neg_ℤ (nearest_signed z d)
 mirrored z d = on_neg (λ (n : ℕ). nearest n d) (nearest_zero d) z
 
-half-even : (k h : ℕ) → 0 < h → nearest_signed (pos (2 * h * (2 * k) + h)) (2 * h) ≡ pos (2 * k)
-half-even k h l = ap pos (half (2 * k) h l ∙ omega arith)
+half_even : (k h : ℕ) → 0 < h → nearest_signed (pos (2 * h * (2 * k) + h)) (2 * h) ≡ pos (2 * k)
+half_even k h l = ap pos (half (2 * k) h l ∙ omega arith)
 
-half-odd : (k h : ℕ) → 0 < h → nearest_signed (pos (2 * h * (2 * k + 1) + h)) (2 * h) ≡ pos (2 * k + 2)
-half-odd k h l = ap pos (half (2 * k + 1) h l ∙ omega arith)
+half_odd : (k h : ℕ) → 0 < h → nearest_signed (pos (2 * h * (2 * k + 1) + h)) (2 * h) ≡ pos (2 * k + 2)
+half_odd k h l = ap pos (half (2 * k + 1) h l ∙ omega arith)
 
 arithmetic : Arithmetic
 unfolding nearest carry
@@ -205,10 +204,10 @@ arithmetic =
       near = near;
       mirrored = mirrored;
       sized = λ z d. nat_abs_on (λ (n : ℕ). nearest n d) z;
-      half_above_even = half-even;
-      half_above_odd = half-odd;
-      half_below_even = λ k h l. mirrored (pos (2 * h * (2 * k) + h)) (2 * h) ∙ ap neg_ℤ (half-even k h l);
-      half_below_odd = λ k h l. mirrored (pos (2 * h * (2 * k + 1) + h)) (2 * h) ∙ ap neg_ℤ (half-odd k h l);
+      half_above_even = half_even;
+      half_above_odd = half_odd;
+      half_below_even = λ k h l. mirrored (pos (2 * h * (2 * k) + h)) (2 * h) ∙ ap neg_ℤ (half_even k h l);
+      half_below_odd = λ k h l. mirrored (pos (2 * h * (2 * k + 1) + h)) (2 * h) ∙ ap neg_ℤ (half_odd k h l);
       halves = refl;
       floor = root_is;
       exact = exact;
@@ -216,9 +215,6 @@ arithmetic =
       right_angle = refl;
     }
 
-returns : tie.Need-returns
+pub returns : goal.returns
 returns c =
     (demands, edges, turned_places, sharp, worked, record_example, arithmetic, halves, house_sine, cosine_kinds, written, printing, interface, texts, text_examples, notes, salvages, salvage_examples, exchange, reprojection, reprojection_examples, reprojected_runs, salvaged_runs)
-
-pub hold-spec : {M : Type 1} → statement M
-hold-spec = tie.close (tie.spec returns)
