@@ -12,7 +12,6 @@ import os
 import re
 import sys
 
-LIBRARY = "/opt/rattle/rattle"
 IDENT = r"[^\s(){}\[\]:;,.λ⌜⌝«»\"|→×∷]+"
 DECLARED = re.compile(
     r"^[ ]*(?:[|]\s*)?(?:(?:abbrev|pub|unfoldable|record|data|ruleset)\s+)*(" + IDENT + r")(?:\s+[({].*?)?\s*:(?!:)", re.M
@@ -75,6 +74,8 @@ def table():
         if is_shared(path):
             declared.update(DECLARED.findall(text))
         bound.update(re.findall(r"(?<![\w.'-])[a-z][a-z0-9]*[A-Z][A-Za-z0-9'′-]*", text))
+    for path in files(".rt"):  # what a file of code calls a definition that has a function's name
+        bound.update(re.findall(r"\bas ([a-z]+[A-Z]\w*)", read(path)))
     names = {n for n in declared if re.match(r"[a-z]", n) and snake(n) != n and n not in library}
     names |= {n for n in bound if snake(n) != n and n not in library and not re.match(r"(Need|Else|Then|Loop)", n)}
     new = {}

@@ -40,7 +40,7 @@ no_output() { # INPUT
     message "standard output closed, from $1" 'standard output'
 }
 
-# A pipe whose reader is gone before anything is written: the signal ends the program, and where it is ignored the write fails.
+# A pipe whose reader is gone before anything is written: its signal may end the program, and where it is ignored the write fails.
 no_reader() { # INPUT
     local status
     { sleep 0.3 && exec cat "$1"; } 2>/dev/null | timeout $limit "$program" 2>"$room/said" | true
