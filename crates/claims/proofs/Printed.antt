@@ -1,8 +1,10 @@
 -- What `convert` prints: the laws of its lines, and the lines of a few inputs.
-use mathlib.Core.Path.{◌≡◌, refl, sym, ◌∙◌}
+use mathlib.Core.Path.{◌≡◌, refl, sym, ap, ◌∙◌}
 use mathlib.Core.Bool.{false}
 use Prim.Native.Nat.{ℕ}
-use lib.IntN.{pos}
+use mathlib.Core.Logic.{◌≢◌}
+use lib.IntN.{ℤ, pos, negsuc}
+use borrow.Author.Tests.{ne_eqb}
 use lib.ListN.{take}
 use Rattle.parallel.specs.Table.{rows, row_of}
 use Rattle.parallel.specs.Parallel.{radicand, q_by, q_at, one_by, one_of, numerator, half_width, height}
@@ -25,6 +27,8 @@ use Rattle.report.specs.Block.{answer_at, session_at, lines_of, block_session, b
 use Rattle.report.specs.Program.{end_of, printed_from, printed_of}
 use Rattle.report.proofs.Blocks.{sessions_compose, lines_compose}
 use Rattle.report.proofs.Streams.{numbered, reads_do_not_matter, tail_refused, tail_numbered, session_of_history}
+use Rattle.stream.specs.declared.state.Got.TheVariants.{Interrupted, Failed}
+use Rattle.stream.specs.Step.{got_of}
 use Rattle.stream.proofs.Runs.{runs_write, runs_end}
 use Rattle.claims.specs.RecordExample.{RecordExample, input}
 use Rattle.claims.specs.Printing.{west, Printing}
@@ -58,6 +62,11 @@ torn_in : (n : ℕ) → feed_of (after n) (take 5 input) 16 ≡ refused 8
 unfolding feed_of unless
 torn_in n = refl
 
+-- a read that failed, by an error that is not 4
+failed_read : (n : ℕ) (error : ℤ) → error ≢ pos 4 → got_of (negsuc n) error ≡ Failed
+failed_read n (pos k) h = rw (ne_eqb k 4 (λ e. h (ap pos e)))
+failed_read n (negsuc k) h = refl
+
 pub printing : Printing
 unfolding printed_of printed_from block_lines block_session tail_of lines_of session_at answer_at record_at end_of line_of closing_of session_after
     number_text decimal_of digits_in
@@ -73,6 +82,8 @@ printing =
       runs = runs_write;
       runs_end = runs_end;
       all_taken = λ n. (refl, refl);
+      interrupted = λ n. refl;
+      no_other = failed_read;
       tail = tail_refused;
       tail_number = tail_numbered;
       counts = session_of_history;

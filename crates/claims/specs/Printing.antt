@@ -1,6 +1,6 @@
 -- What the program `convert` prints of an input: that of the whole input, whatever pieces it comes in, or where a read or a write fails
 -- the lines of whole records alone; in text that is what it should be.
-use Rattle.std.specs.Prelude.{true, List, [], ◌∷◌, ◌++◌, ◌≡◌, ℕ, ℤ, take}
+use Rattle.std.specs.Prelude.{true, List, [], ◌∷◌, ◌++◌, ◌≡◌, ◌≢◌, ℕ, ℤ, pos, negsuc, take}
 use Rattle.parallel.specs.Refusal.{refused, given}
 use Rattle.lines.specs.Decimal.{decimal_of, number_text, DecimalText}
 use Rattle.lines.specs.Line.{line_of}
@@ -9,7 +9,9 @@ use Rattle.report.specs.Program.{printed_of, Numbered, TailNumbered, ReadsDoNotM
 use Rattle.jobs.specs.declared.Job.{Job}
 use Rattle.jobs.specs.declared.Job.TheVariants.{Convert, Reproject}
 use Rattle.jobs.specs.Job.{takes_in}
+use Rattle.stream.specs.declared.state.Got.TheVariants.{Interrupted, Failed}
 use Rattle.stream.specs.Run.{RunsWrite, RunsEnd}
+use Rattle.stream.specs.Step.{got_of}
 use Rattle.claims.specs.RecordExample.{input}
 
 -- "157079632 78539816" and "moved 1 refused 0", each with a line feed
@@ -65,6 +67,9 @@ pub record Printing : Type 0 where
   -- and a run whose reads and writes go well ends with its input, where the job takes it; `convert` and `reproject` take any
   pub runs_end : (job : Job) → RunsEnd job
   pub all_taken : (n : ℕ) → (takes_in Convert n ≡ true) × (takes_in Reproject n ≡ true)
+  -- a read that fails by error 4, a signal's interruption, is tried again; no other is
+  pub interrupted : (n : ℕ) → got_of (negsuc n) (pos 4) ≡ Interrupted
+  pub no_other : (n : ℕ) (error : ℤ) → error ≢ pos 4 → got_of (negsuc n) error ≡ Failed
   -- a tail shorter than 16 bytes prints "refused 8" with the next number, and no count changes
   pub tail : TailRefused
   pub tail_number : TailNumbered
