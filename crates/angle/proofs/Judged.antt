@@ -1,9 +1,8 @@
 -- What the tests of a call say of what it was handed.
 use mathlib.Core.Path.{◌≡◌, sym, ap, ◌∙◌}
-use mathlib.Core.Bool.{Bool, true, false, not, true≢false}
+use mathlib.Core.Bool.{Bool, false}
 use Prim.Native.Nat.{ℕ, ◌≤◌}
 use borrow.Author.Tests.{ltb-false}
-use lib.Dec.{T}
 use lib.IntN.{ℤ, nat_abs}
 use mir.Syntax.{w32}
 use mir.Val.{SFits, to_z, of_z}
@@ -12,11 +11,6 @@ use Rattle.whole.specs.declared.Signed.{Signed}
 use Rattle.whole.specs.Signed.{split_of, join_of}
 use Rattle.whole.proofs.Signs.{join_split, nat_abs_join}
 use Rattle.angle.specs.Angle.{outside}
-
--- a failed test of a negation
-pub not-false : (b : Bool) → not b ≡ false → T b
-not-false true e = tt
-not-false false e = true≢false e
 
 -- a number taken apart is that number
 pub number_is : {z : ℤ} (s : Signed) → SFits w32 z → s ≡ split_of (to_z w32 (of_z w32 z)) → join_of s ≡ z

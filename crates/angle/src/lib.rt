@@ -2,6 +2,7 @@
 #![tactic(auto)]
 
 mod sexagesimal;
+mod within;
 
 ghost use Rattle.std.specs.Prelude.{◌≡◌};
 ghost use Rattle.whole.specs.Signed.{split_of, join_of};
@@ -9,6 +10,7 @@ ghost use Rattle.angle.specs.Angle.{outside as outside_of};
 
 pub use sexagesimal::Sexagesimal;
 use whole::Signed;
+pub use within::{Latitude, Longitude, Within};
 
 // A longitude or a latitude in whole hundredths of an arcsecond ("centiseconds" of document 01).
 #[derive(Clone, Copy)]
@@ -30,19 +32,20 @@ impl Angle {
 
     pub const M: u32 = 32 * Self::N;
 
-    pub fn new(centiseconds: i32) -> Angle
-        ensures { result.count ≡ split_of centiseconds }
-    {
-        Angle {
-            count: Signed::split(centiseconds),
-        }
-    }
-
     // Whether the angle lies farther from 0 than a limit, either way.
     pub fn outside(self, limit: u32) -> bool
         ensures { result ≡ outside_of limit (join_of self.count) }
     {
-        let count = self.count;
-        limit < count.size
+        limit < self.count.size
+    }
+}
+
+impl From<i32> for Angle {
+    ghost from_gives = { λ centiseconds angle. angle.count ≡ split_of centiseconds };
+
+    fn from(centiseconds: i32) -> Angle {
+        Angle {
+            count: Signed::from(centiseconds),
+        }
     }
 }

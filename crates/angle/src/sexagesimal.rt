@@ -1,4 +1,5 @@
-// An angle in degrees, minutes, seconds and hundredths of a second.
+// An angle in degrees, minutes, seconds and hundredths of a second. Its sign stands beside them: a zero may have a minus sign, which a
+// text is refused for.
 ghost use Rattle.std.specs.Prelude.{◌≡◌};
 ghost use Rattle.angle.specs.Sexagesimal.{sexagesimal_of, size_of, below_sixty};
 
@@ -13,29 +14,30 @@ pub struct Sexagesimal {
     pub hundredths: u32,
 }
 
-impl Sexagesimal {
-    pub fn new(angle: Angle) -> Sexagesimal
-        ensures { result ≡ sexagesimal_of angle.count }
-    {
-        let count = angle.count;
-        let size = count.size;
+impl From<Angle> for Sexagesimal {
+    ghost from_gives = { λ angle sexagesimal. sexagesimal ≡ sexagesimal_of angle.count };
+
+    fn from(angle: Angle) -> Sexagesimal {
+        let size = angle.count.size;
         Sexagesimal {
-            negative: count.negative,
+            negative: angle.count.negative,
             degrees: size / Angle::PER_DEGREE,
             minutes: size / Angle::PER_MINUTE % 60,
             seconds: size / Angle::PER_SECOND % 60,
             hundredths: size % Angle::PER_SECOND,
         }
     }
+}
 
+impl Sexagesimal {
     // The size, in hundredths of a second.
     pub fn size(self) -> u64
         ensures { result ≡ size_of self }
     {
-        let degrees = self.degrees as u64 * Angle::PER_DEGREE as u64;
-        let minutes = self.minutes as u64 * Angle::PER_MINUTE as u64;
-        let seconds = self.seconds as u64 * Angle::PER_SECOND as u64;
-        degrees + minutes + seconds + self.hundredths as u64
+        let degrees = u64::from(self.degrees) * u64::from(Angle::PER_DEGREE);
+        let minutes = u64::from(self.minutes) * u64::from(Angle::PER_MINUTE);
+        let seconds = u64::from(self.seconds) * u64::from(Angle::PER_SECOND);
+        degrees + minutes + seconds + u64::from(self.hundredths)
     }
 
     // Whether minutes and seconds are below 60.

@@ -1,3 +1,3 @@
-pub mod Orders
+pub mod Judged
 pub mod Numbers
 pub mod Written

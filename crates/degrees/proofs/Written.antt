@@ -7,11 +7,12 @@ use native.Mathlib.Omega.{arith}
 use lib.Dec.{lit<}
 use lib.IntN.{ℤ, pos, negsuc, nat_abs}
 use lib.Ieee as Ieee
-use lib.Ieee.{Float, nan, inf, fin, binary64, up, down, round, of_int}
+use lib.Ieee.{Float, nan, inf, fin, binary64, up, down, of_bits, round, of_int}
 use lib.Ieee.Back.{round_whole}
 use lib.Ieee.Exact.{HasValue}
 use lib.Ieee.Fits.{down_pos}
 use lib.Ieee.Scale.{round_same}
+use mir.Facts.{to_z-of_z}
 use Rattle.whole.specs.Signed.{with_sign}
 use Rattle.angle.specs.Angle.{per_degree}
 use Rattle.reading.proofs.Rounded.{Stands, rounded_back}
@@ -21,6 +22,13 @@ use Rattle.degrees.specs.Writing.{degrees_of, units_of}
 pub per_degree_lem : of_int binary64 (pos per_degree) ≡ fin false 5625 (pos 6)
 unfolding of_int round
 per_degree_lem = refl
+
+-- the bits of the code's PER_DEGREE, and what finds the answer of the code's division
+pub per_degree_bits : of_bits binary64 4689928365371555840 ≡ of_int binary64 (pos per_degree)
+unfolding of_bits of_int round
+per_degree_bits = refl
+
+pub ruleset division = (per_degree_bits, to_z-of_z)
 
 crossed : (m d n : ℕ) → m * 1 ≡ n * d → m * 1 * per_degree ≡ n * (per_degree * d)
 crossed m d n h = ap (λ (x : ℕ). x * per_degree) h ∙ mul_right_comm n d per_degree ∙ mul_assoc n per_degree d

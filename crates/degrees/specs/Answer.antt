@@ -2,35 +2,28 @@
 -- position at the numbers read, written as floats.
 use Rattle.std.specs.Prelude.{List, [], ◌∷◌, ℕ, ℤ, Float}
 use Rattle.parallel.specs.Table.{row_of}
-use Rattle.parallel.specs.Refusal.{Refusal, Outcome, refused, given, unless, bad_kind}
+use Rattle.refusal.specs.Outcome.{Rule, Outcome, unless}
+use Rattle.parallel.specs.Refusal.{bad_kind}
 use Rattle.projection.specs.Forward.{place_of}
 use Rattle.projection.specs.Inverse.{position_of}
 use Rattle.projection.specs.Answer.{row_order}
 use Rattle.reading.specs.Reading.{centiseconds, units}
-use Rattle.degrees.specs.declared.answer.FloatAnswer.{FloatAnswer}
-use Rattle.degrees.specs.declared.answer.FloatAnswer.TheVariants.{Pair, Refused}
-use Rattle.degrees.specs.declared.answer.DegreesAnswer.{DegreesAnswer}
-use Rattle.degrees.specs.declared.answer.DegreesAnswer.TheVariants.{Position, Refused as DegreesRefused}
+use Rattle.degrees.specs.declared.writing.Degrees.{Degrees}
 use Rattle.degrees.specs.Writing.{degrees_of, units_of}
 use Rattle.degrees.specs.Refusal.{bad_float, bad_central, bad_longitude, bad_latitude}
 
--- document 01's number or values for each case of the code's answers
-abbrev pub meaning : FloatAnswer → Outcome (Float × Float)
-meaning (Pair x y) = given (x, y)
-meaning (Refused n) = refused n
-
-abbrev pub degrees_meaning : DegreesAnswer → Outcome (Float × Float)
-degrees_meaning (Position at) = given (at.longitude, at.latitude)
-degrees_meaning (DegreesRefused n) = refused n
+-- a position of the code as a pair: longitude and latitude
+abbrev pub pair_of : Degrees → Float × Float
+pair_of at = (at.longitude, at.latitude)
 
 -- the order of the refusals, call by call: 2 for any of the three floats
-abbrev pub forward_order : ℕ → Float → Float → Float → List Refusal
+abbrev pub forward_order : ℕ → Float → Float → Float → List Rule
 forward_order kind central longitude latitude =
     bad_kind kind ∷ bad_float central ∷ bad_float longitude ∷ bad_float latitude ∷ bad_central central ∷ bad_longitude longitude
     ∷ bad_latitude latitude ∷ []
 
 -- a place is rounded, however large it is, and then judged as a place
-abbrev pub inverse_order : ℕ → Float → Float → Float → List Refusal
+abbrev pub inverse_order : ℕ → Float → Float → Float → List Rule
 inverse_order kind central x y =
     bad_kind kind ∷ bad_float central ∷ bad_float x ∷ bad_float y ∷ bad_central central ∷ row_order (row_of kind) (units x) (units y)
 

@@ -8,11 +8,5 @@ use reading::finite;
 pub(crate) fn all_finite(a: f64, b: f64, c: f64) -> bool
     ensures { result ≡ (finite_of a && finite_of b && finite_of c) }
 {
-    if !finite(a) {
-        return false;
-    }
-    if !finite(b) {
-        return false;
-    }
-    finite(c)
+    finite(a) && finite(b) && finite(c)
 }

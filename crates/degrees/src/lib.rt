@@ -2,13 +2,11 @@
 // document 01).
 #![tactic(auto)]
 
-mod answer;
 mod judging;
 mod place;
 mod position;
 mod writing;
 
-pub use answer::{DegreesAnswer, FloatAnswer};
 pub use place::forward_degrees;
 pub use position::inverse_degrees;
 pub use writing::Degrees;

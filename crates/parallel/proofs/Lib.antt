@@ -6,3 +6,4 @@ pub mod Scales
 pub mod Heights
 pub mod Orders
 pub mod Answers
+pub mod Numbered

@@ -3,9 +3,9 @@
 #![tactic(auto)]
 
 mod at;
-mod height;
+mod kind;
+mod parallel;
 mod table;
-mod width;
 
-pub use at::{Parallel, Width, at_latitude, at_y, half_width};
-pub use table::is_kind;
+pub use at::{at_latitude, at_y, half_width};
+pub use kind::{Kind, is_kind};

@@ -1,8 +1,10 @@
 // The table of the projections, a row for each kind: "the ten outlines" of document 01, of which order 2 exchanged kinds 3 and 4, the
 // Sinusoidal and Eckert V.
-ghost use Rattle.std.specs.Prelude.{◌≡◌, T, ◌<◌, length, get_or};
-ghost use Rattle.parallel.specs.Table.{rows, no_row, row_of};
-ghost use Rattle.parallel.specs.Refusal.{is_kind as is_kind_of};
+ghost use Rattle.std.specs.Prelude.{◌≡◌};
+ghost use Rattle.parallel.specs.Kind.{number_of};
+ghost use Rattle.parallel.specs.Table.{row_of};
+
+use super::kind::Kind;
 
 // How a row has its q.
 #[derive(Clone, Copy)]
@@ -136,41 +138,20 @@ const ROWS: [Row; KINDS] = [
     },
 ];
 
-// Whether a kind has a row.
-#[tactic(auto, unfolding(crate::specs::Refusal::is_kind, crate::specs::Table::rows))]
-pub fn is_kind(kind: u8) -> bool
-    ensures { result ≡ is_kind_of kind }
-{
-    if kind == 0 {
-        false
-    } else {
-        kind as usize <= KINDS
+impl Kind {
+    // The row of a kind, taken field by field: a copy of the whole would wait for its narrow last field.
+    #[tactic(auto, unfolding(crate::specs::Table::rows, crate::specs::Table::row_of))]
+    pub(crate) fn row(self) -> Row
+        ensures { result ≡ row_of (number_of self) }
+    {
+        let row = &ROWS[self as usize - 1];
+        Row {
+            kx: row.kx,
+            ky: row.ky,
+            a: row.a,
+            b: row.b,
+            e: row.e,
+            method: row.method,
+        }
     }
-}
-
-// The row of a kind, taken field by field: a copy of the whole would wait for its narrow last field.
-#[tactic(auto, using(crate::proofs::Rows::kind_range), unfolding(crate::specs::Table::row_of))]
-pub(crate) fn row_of(kind: u8) -> Row
-    requires { T (is_kind_of kind) }
-    ensures { result ≡ row_of kind }
-{
-    let row = row_at((kind - 1) as usize);
-    let method = row.method;
-    Row {
-        kx: row.kx,
-        ky: row.ky,
-        a: row.a,
-        b: row.b,
-        e: row.e,
-        method,
-    }
-}
-
-// A row of the table, counted from 0.
-#[tactic(auto, unfolding(crate::specs::Table::rows))]
-fn row_at(i: usize) -> Row
-    requires { i < length rows }
-    ensures { result ≡ get_or rows i no_row }
-{
-    ROWS[i]
 }

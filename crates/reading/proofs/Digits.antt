@@ -1,7 +1,7 @@
 -- A product of digits that is worked out in two parts, and what is read from it.
 use mathlib.Core.Path.{◌≡◌, sym, ap, ap₂, ◌∙◌}
 use Prim.Native.Nat.{ℕ, ◌+◌, ◌-◌, ◌*◌, ◌/◌, ◌%◌, ◌^◌, ◌≤◌, ◌<◌, min}
-use native.Mathlib.Nat.{le_trans, le_of_lt, lt_of_le_of_lt, mod-lt, mul_comm, mul_right_comm, add-mul, mul-le-mul, div-div-eq-div-mul, div-add-mod', mul-add-div_right, mul-add-mod_self_right, mul-pos}
+use native.Mathlib.Nat.{le_trans, le_of_lt, lt_of_le_of_lt, mul_comm, mul_right_comm, add-mul, mul-le-mul, div-div-eq-div-mul, div-add-mod', mul-add-div_right, mul-add-mod_self_right, mul-pos}
 use native.Mathlib.Omega.{arith}
 use lib.Arith.{mod-mul}
 use lib.Dec.{lit<, lit≤}
@@ -28,9 +28,6 @@ module _ (q by : ℕ) where
 
   pub product_fits : q < 2 ^ 53 → by ≤ per_degree → q * by < 2 ^ 72
   product_fits h k = lt_of_le_of_lt (mul-le-mul (le_of_lt h) k) (lit< tt)
-
-  pub low_fits : by ≤ per_degree → q % 4096 * by < 2 ^ 32
-  low_fits k = lt_of_le_of_lt (mul-le-mul (le_of_lt (mod-lt q (lit< tt))) k) (lit< tt)
 
 -- the same, as halves of 2 ^ (13 + d) and what is left over
 pub halves_are : (n d : ℕ) → n / 4096 / 2 ^ d ≡ n / (2 ^ d * 4096)
@@ -63,15 +60,11 @@ at_power q p by h =
     ∙ nearest_scale (q * by) (2 * j) (2 ^ p) (mul-pos {m = 2} (lit< tt) (mul-pos (pow_pos (1061 - p)) (lit< tt))) (pow_pos p)
 
 -- and by the quarters
-pub by_quarters : (q p by : ℕ) {m n : ℕ} → p ≤ 1061 →
-    m ≡ 2 * (q * by / (2 ^ (1061 - p) * 4096)) + min 1 (q * by % (2 ^ (1061 - p) * 4096)) → n ≡ nearest m 4 →
-    n ≡ nearest (q * 2 ^ p * by) (2 ^ 1074)
-by_quarters q p by h e f =
-    let j = 2 ^ (1061 - p) * 4096 in
-    f
-    ∙ ap (λ (n : ℕ). nearest n 4) e
-    ∙ nearest_halves (q * by) j (mul-pos (pow_pos (1061 - p)) (lit< tt))
-    ∙ sym (at_power q p by h)
+pub by_quarters : (q p by : ℕ) → p ≤ 1061 →
+    nearest (q * 2 ^ p * by) (2 ^ 1074)
+    ≡ nearest (2 * (q * by / (2 ^ (1061 - p) * 4096)) + min 1 (q * by % (2 ^ (1061 - p) * 4096))) 4
+by_quarters q p by h =
+    at_power q p by h ∙ sym (nearest_halves (q * by) (2 ^ (1061 - p) * 4096) (mul-pos (pow_pos (1061 - p)) (lit< tt)))
 
 -- a product below 2 ^ 72 over 2 ^ 77 or more is less than a half
 pub tiny : (q p by : ℕ) → q < 2 ^ 53 → by ≤ per_degree → p ≤ 1061 → 64 ≤ 1061 - p → nearest (q * 2 ^ p * by) (2 ^ 1074) ≡ 0

@@ -1,19 +1,20 @@
 -- The value of a float, from its bits, and what is read of a float that has a known value.
-use mathlib.Core.Bool.{Bool, beq, true, false, cond, not, ◌||◌, or-false, or-true, true≢false}
+use mathlib.Core.Bool.{Bool, true, false, cond, not, ◌||◌, or-false, true≢false}
 use mathlib.Core.Path.{◌≡◌, refl, sym, ap, subst, ◌∙◌}
-use Prim.Native.Nat.{ℕ, zero, suc, ◌+◌, ◌*◌, ◌/◌, ◌%◌, ◌^◌, ◌≤◌, ◌<◌, zero-le, min}
-use native.Mathlib.Nat.{mul-one, zero-mul, mul-zero, mul_right_comm, mul-pos, mul-le-mul_right, eq_of_mul-eq-mul_right}
+use Prim.Native.Nat.{ℕ, suc, ◌+◌, ◌*◌, ◌/◌, ◌%◌, ◌-◌, ◌^◌, ◌≤◌, ◌<◌, zero-le, min}
+use native.Mathlib.Nat.{mul-one, mul_right_comm, mul-le-mul_right}
 use native.Mathlib.Omega.{arith}
 use borrow.Author.Tests.{ltb-false}
-use lib.Dec.{T, leb, ltb, eqb, lit<}
+use lib.Dec.{T, leb, ltb, eqb}
 use lib.IntN.{pos, nat_abs}
 use lib.Pow.{pow_pos}
 use lib.Ieee as Ieee
 use lib.Ieee.{Float, nan, inf, fin, binary64, up, down, of_bits, of_fields, odd, round}
 use lib.Ieee.Bits.{of_bits-to_bits}
 use lib.Ieee.Fits.{down_pos}
-use lib.Ieee.Exact.{HasValue, odd_sign, round_exact}
+use lib.Ieee.Exact.{HasValue, odd_sign}
 use lib.Ieee.Scale.{finite}
+use Rattle.std.specs.Float.{float_is_finite, is_sign_negative}
 use Rattle.whole.specs.Nearest.{nearest}
 use Rattle.whole.specs.Signed.{with_sign}
 use Rattle.whole.proofs.Rounding.{near, nearest_same}
@@ -32,18 +33,18 @@ read_of_lem k (fin t m e) s a c h v =
     ∙ ap (with_sign s) (nearest_same (m * up e * k) (down e) (a * k) c (down_pos e) h
     (mul_right_comm (m * up e) k c ∙ ap (λ (x : ℕ). x * k) v.1 ∙ mul_right_comm a (down e) k))
 
-pub size_read : (k : ℕ) (x : Float) (s : Bool) (a c : ℕ) → 0 < c → HasValue x s a c → nat_abs (read_of k x) ≡ nearest (a * k) c
+size_read : (k : ℕ) (x : Float) (s : Bool) (a c : ℕ) → 0 < c → HasValue x s a c → nat_abs (read_of k x) ≡ nearest (a * k) c
 size_read k x s a c h v = ap nat_abs (read_of_lem k x s a c h v) ∙ nat_abs_sign s (nearest (a * k) c)
 
 -- a float that is no number is read as 0
-pub read_none : (k : ℕ) (x : Float) → finite x ≡ false → read_of k x ≡ pos 0
+read_none : (k : ℕ) (x : Float) → finite x ≡ false → read_of k x ≡ pos 0
 unfolding read_of
 read_none k nan h = refl
 read_none k (inf s) h = refl
 read_none k (fin s m e) h = absurd (true≢false h)
 
 -- the value of a pattern of bits, by its sign, its exponent and its digits
-pub subnormal : (b : ℕ) → b % 2 ^ 63 / 2 ^ 52 ≡ 0 →
+subnormal : (b : ℕ) → b % 2 ^ 63 / 2 ^ 52 ≡ 0 →
     HasValue (of_bits binary64 b) (leb (2 ^ 63) b) (b % 2 ^ 52 * 2 ^ 0) (2 ^ 1074)
 unfolding of_bits of_fields
 subnormal b h = rw h (odd_sign 53 (leb (2 ^ 63) b) (b % 2 ^ 52) 0 1074)
@@ -59,52 +60,48 @@ with_exponent s k t = go (eqb (suc k) 2047) (eqb t 0)
     go true false h = absurd (true≢false (sym h))
     go false b h = odd_sign 53 s (2 ^ 52 + t) k 1074
 
-pub normal : (b k : ℕ) → b % 2 ^ 63 / 2 ^ 52 ≡ suc k → finite (of_bits binary64 b) ≡ true →
+normal : (b k : ℕ) → b % 2 ^ 63 / 2 ^ 52 ≡ suc k → finite (of_bits binary64 b) ≡ true →
     HasValue (of_bits binary64 b) (leb (2 ^ 63) b) ((2 ^ 52 + b % 2 ^ 52) * 2 ^ k) (2 ^ 1074)
 unfolding of_bits
 normal b k h f = rw h (with_exponent (leb (2 ^ 63) b) k (b % 2 ^ 52) (rw h at f))
 
--- the sign of what is read is the pattern's
-pub read_bits : (k b : ℕ) → finite (of_bits binary64 b) ≡ true →
-    read_of k (of_bits binary64 b) ≡ with_sign (leb (2 ^ 63) b) (nat_abs (read_of k (of_bits binary64 b)))
-read_bits k b f = go (b % 2 ^ 63 / 2 ^ 52) refl
-  where
-    from : (a : ℕ) → HasValue (of_bits binary64 b) (leb (2 ^ 63) b) a (2 ^ 1074) →
-        read_of k (of_bits binary64 b) ≡ with_sign (leb (2 ^ 63) b) (nat_abs (read_of k (of_bits binary64 b)))
-    from a v =
-        let x = of_bits binary64 b in
-        let s = leb (2 ^ 63) b in
-        read_of_lem k x s a (2 ^ 1074) (pow_pos 1074) v ∙ ap (with_sign s) (sym (size_read k x s a (2 ^ 1074) (pow_pos 1074) v))
-
-    go : (j : ℕ) → b % 2 ^ 63 / 2 ^ 52 ≡ j →
-        read_of k (of_bits binary64 b) ≡ with_sign (leb (2 ^ 63) b) (nat_abs (read_of k (of_bits binary64 b)))
-    go zero e = from (b % 2 ^ 52 * 2 ^ 0) (subnormal b e)
-    go (suc j) e = from ((2 ^ 52 + b % 2 ^ 52) * 2 ^ j) (normal b j e f)
-
--- a float that is a number, its pattern, and what is held of it
+-- a float that is a number, and its pattern
 pub no_nan : (x : Float) → finite x ≡ true → T (not (Ieee.is_nan x))
 unfolding Ieee.is_nan
 no_nan nan h = absurd (true≢false (sym h))
 no_nan (inf s) h = tt
 no_nan (fin s m e) h = tt
 
-pub bits_back : (x : Float) → Ieee.fits binary64 x ≡ true → of_bits binary64 (Ieee.to_bits binary64 x) ≡ x
+bits_back : (x : Float) → Ieee.fits binary64 x ≡ true → of_bits binary64 (Ieee.to_bits binary64 x) ≡ x
 bits_back x f = of_bits-to_bits binary64 x (subst T (sym f) tt)
 
+-- the size of what is read, by the pattern's digits and exponent
+module _ (k : ℕ) (x : Float) (f : Ieee.fits binary64 x ≡ true) where
+  abbrev pattern : ℕ
+  pattern = Ieee.to_bits binary64 x
+
+  pub subnormal_read : pattern % 2 ^ 63 / 2 ^ 52 ≡ 0 → nat_abs (read_of k x) ≡ nearest (pattern % 2 ^ 52 * 2 ^ 0 * k) (2 ^ 1074)
+  subnormal_read e =
+      size_read k x (leb (2 ^ 63) pattern) (pattern % 2 ^ 52 * 2 ^ 0) (2 ^ 1074) (pow_pos 1074)
+      (rw (bits_back x f) at (subnormal pattern e))
+
+  pub normal_read : finite x ≡ true → 0 < pattern % 2 ^ 63 / 2 ^ 52 →
+      nat_abs (read_of k x) ≡ nearest ((2 ^ 52 + pattern % 2 ^ 52) * 2 ^ (pattern % 2 ^ 63 / 2 ^ 52 - 1) * k) (2 ^ 1074)
+  normal_read h e =
+      let j = pattern % 2 ^ 63 / 2 ^ 52 - 1 in
+      size_read k x (leb (2 ^ 63) pattern) ((2 ^ 52 + pattern % 2 ^ 52) * 2 ^ j) (2 ^ 1074) (pow_pos 1074)
+      (rw (bits_back x f) at (normal pattern j (omega arith) (ap finite (bits_back x f) ∙ h)))
+
+-- what is held of a float, by its sign
 pub held_none : (k : ℕ) (x : Float) → finite x ≡ false → held (read_of k x) ≡ pos 0
 held_none k x h = ap held (read_none k x h)
 
-pub with_its_sign : (k : ℕ) (x : Float) {n : ℕ} → Ieee.fits binary64 x ≡ true → finite x ≡ true →
-    n ≡ min most (nat_abs (read_of k (of_bits binary64 (Ieee.to_bits binary64 x)))) →
-    with_sign (leb (2 ^ 63) (Ieee.to_bits binary64 x)) n ≡ held (read_of k x)
-with_its_sign k x f h e =
-    let b = Ieee.to_bits binary64 x in
-    let s = leb (2 ^ 63) b in
-    let back = bits_back x f in
-    ap (with_sign s) e
-    ∙ sym (on_sign (min most) refl s (nat_abs (read_of k (of_bits binary64 b))))
-    ∙ ap held (sym (read_bits k b (ap finite back ∙ h)))
-    ∙ ap (λ (x : Float). held (read_of k x)) back
+pub held_sign : (k : ℕ) (x : Float) → finite x ≡ true → held (read_of k x) ≡ with_sign (is_sign_negative x) (min most (nat_abs (read_of k x)))
+unfolding read_of is_sign_negative
+held_sign k nan h = absurd (true≢false (sym h))
+held_sign k (inf s) h = absurd (true≢false (sym h))
+held_sign k (fin s m e) h =
+    let n = nearest (m * up e * k) (down e) in rw (nat_abs_sign s n) (on_sign (min most) refl s n)
 
 -- a float within n is read as a number within k n
 pub read_within : (n k : ℕ) (x : Float) → outside n x ≡ false → nat_abs (read_of k x) ≤ n * k
@@ -128,23 +125,9 @@ limit (inf false) n a k e = refl
 limit (fin true m d) n a k e = rw (e, mul-one (m * up d))
 limit (fin false m d) n a k e = rw (e, mul-one (m * up d)) (or-false (ltb (n * down d) (m * up d)))
 
--- 0 times a float is 0 where the float is finite, and a NaN elsewhere
-is_zero : (y : Float) (s : Bool) (c : ℕ) → 0 < c → HasValue y s 0 c → Ieee.eq y (fin false 0 (pos 0)) ≡ true
-unfolding Ieee.eq
-is_zero nan s c h v = absurd v
-is_zero (inf t) s c h v = absurd v
-is_zero (fin t m e) s c h v =
-    let z : m * up e ≡ 0 = eq_of_mul-eq-mul_right c h (m * up e) 0 (v.1 ∙ zero-mul (down e) ∙ sym (zero-mul c)) in
-    rw (z, zero-mul (down e)) (or-true (beq t false))
-
-pub zero_times : (x : Float) → Ieee.eq (Ieee.mul binary64 x (of_bits binary64 0)) (of_bits binary64 0) ≡ finite x
-unfolding Ieee.mul Ieee.eq of_bits
-zero_times nan = refl
-zero_times (inf true) = refl
-zero_times (inf false) = refl
-zero_times (fin s m e) =
-    let t = Ieee.unlike s false in
-    let d = mul-pos (down_pos e) (lit< tt) in
-    rw (mul-zero (m * up e))
-    (is_zero (round binary64 t 0 (down e * 1)) t (down e * 1) d
-    (round_exact binary64 t 0 (down e * 1) 0 0 d (lit< tt) (lit< tt) (sym (zero-mul (down e * 1)))))
+-- the library's test of a number
+pub finite_is : (x : Float) → float_is_finite x ≡ finite x
+unfolding float_is_finite
+finite_is nan = refl
+finite_is (inf s) = refl
+finite_is (fin s m e) = refl

@@ -44,6 +44,3 @@ all_rise = tt
 
 pub entries_mono : {i j : ℕ} → i ≤ j → j ≤ last_place → entry_of i ≤ entry_of j
 entries_mono {i} {j} h l = climbs entry_of last_place (rising_at entry_of last_place (entry_of last_place) all_rise refl) j h l
-
-pub entry_le : (i : ℕ) → i ≤ last_place → get_or table i 0 ≤ billion
-entry_le i h = rw (table_at i h, ← last_entry) (entries_mono h (omega arith))

@@ -81,21 +81,11 @@ ext (negsuc a) (pos b) h = absurd (omega arith)
 ext (negsuc a) (negsuc b) h = ap negsuc (omega arith)
 
 -- what is left of a where b is taken away, by sign and size
-pub less_east : (a b : ℕ) → b ≤ a → pos a -ℤ pos b ≡ with_sign false (a - b)
-less_east a b h = ext (pos a -ℤ pos b) (pos (a - b)) (omega (arith, less (pos a) (pos b)))
-
 pub less_west : (a b : ℕ) → a ≤ b → pos a -ℤ pos b ≡ with_sign true (b - a)
 less_west a b h =
     let p = plus_neg (pos (b - a)) in
     let m = minus_neg (pos (b - a)) in
     ext (pos a -ℤ pos b) (neg_ℤ (pos (b - a))) (omega (arith, less (pos a) (pos b)))
-
--- a sum is what is added less what is taken away
-pub by_parts : (x y : ℤ) → pos (plus x + plus y) -ℤ pos (minus x + minus y) ≡ x +ℤ y
-by_parts x y =
-    let a = plus x + plus y in
-    let b = minus x + minus y in
-    ext (pos a -ℤ pos b) (x +ℤ y) (omega (arith, less (pos a) (pos b), sum x y))
 
 pub plus_mul : (z : ℤ) (k : ℕ) → plus (z *ℤ pos k) ≡ plus z * k
 plus_mul (pos n) k = refl
@@ -178,9 +168,6 @@ back w z h = to_z-of_z (fits w z h)
 -- a size of fewer bits than the width, turned
 pub turned : (w : Width) {n : ℕ} → n < 2 ^ hbits w → pos 0 -ℤ to_z w n ≡ neg_ℤ (pos n)
 turned w {n} h = rw (to_z_pos w h) (+ℤ_idl (neg_ℤ (pos n)))
-
-pub turned_fits : (w : Width) {n : ℕ} → n < 2 ^ hbits w → SFits w (neg_ℤ (pos n))
-turned_fits w {n} h = fits w (neg_ℤ (pos n)) (rw (nat_abs_neg (pos n)) h)
 
 -- a number of less than 32 bits, put together in 64 bits and read in 32
 pub join_wide : (s : Signed) {z : ℤ} → s.size < 2 ^ 31 → z ≡ join_of s → to_z w64 (of_z w64 z) ≡ join_of s

@@ -1,7 +1,7 @@
 // Whole numbers: rounding to the nearest, the floor of a square root, and a signed number as its sign and its size.
 #![tactic(auto)]
 
-ghost use Rattle.std.specs.Prelude.{◌≡◌, ◌<◌};
+ghost use Rattle.std.specs.Prelude.{◌≡◌, ◌*◌, ◌<◌};
 ghost use Rattle.whole.specs.Nearest.{carry as carry_of, nearest as nearest_of};
 ghost use Rattle.whole.specs.Root.{root as root_of};
 ghost use Rattle.whole.specs.Signed.{split_of, join_of, plus as plus_of, minus as minus_of};
@@ -15,6 +15,13 @@ pub fn nearest(n: u64, d: u64) -> u64
     }
     let q = n / d;
     q + carry(q, n % d, d)
+}
+
+// The whole number nearest to n by / of.
+pub fn scaled(n: u32, by: u32, of: u32) -> u64
+    ensures { result ≡ nearest_of (n * by) of }
+{
+    nearest(u64::from(n) * u64::from(by), u64::from(of))
 }
 
 // What is added to a quotient's floor q where r of d is left over: a half goes to the even neighbour, and only an even d has one. Where
@@ -37,6 +44,7 @@ pub fn root(n: u64) -> u64
     let mut bit: u64 = if n < 1 << 32 { 1 << 30 } else { 1 << 62 };
     let mut rest = n;
     let mut found: u64 = 0;
+    // by a digit's place, and no library's root: tests/root holds the machine code to shifts, sums, differences and comparisons
     while bit > 0 {
         let tried = found + bit;
         found = found >> 1;
@@ -49,43 +57,38 @@ pub fn root(n: u64) -> u64
     found
 }
 
-// A signed number as its sign and its size. 0 may have either sign.
+// A signed number as its sign and its size, and no i32: signs are split off once, and the work is done on sizes. 0 may have either
+// sign.
 #[derive(Clone, Copy)]
 pub struct Signed {
     pub negative: bool,
     pub size: u32,
 }
 
+// A number taken apart.
+impl From<i32> for Signed {
+    ghost from_gives = { λ z signed. signed ≡ split_of z };
+
+    fn from(z: i32) -> Signed {
+        Signed {
+            negative: z < 0,
+            size: z.unsigned_abs(),
+        }
+    }
+}
+
+// The number put together: 64 bits hold every sign and size.
+impl From<Signed> for i64 {
+    ghost from_gives = { λ signed z. z ≡ join_of signed };
+
+    fn from(signed: Signed) -> i64 {
+        let size = i64::from(signed.size);
+        if signed.negative { -size } else { size }
+    }
+}
+
+// The positive and the negative part: the number is the one less the other, and one of them is 0.
 impl Signed {
-    // A number taken apart.
-    pub fn split(z: i32) -> Signed
-        ensures { result ≡ split_of z }
-    {
-        if z < 0 {
-            Signed {
-                negative: true,
-                size: (-1 - z) as u32 + 1,
-            }
-        } else {
-            Signed {
-                negative: false,
-                size: z as u32,
-            }
-        }
-    }
-
-    // The number put together: 64 bits hold every sign and size.
-    pub fn join(self) -> i64
-        ensures { result ≡ join_of self }
-    {
-        if self.negative {
-            0 - (self.size as i64)
-        } else {
-            self.size as i64
-        }
-    }
-
-    // The positive and the negative part: the number is the one less the other, and one of them is 0.
     pub fn plus(self) -> u64
         ensures { result ≡ plus_of (join_of self) }
     {

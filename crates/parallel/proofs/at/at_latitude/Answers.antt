@@ -1,37 +1,20 @@
--- `parallel::at::at_latitude` meets its contract: its tests are the conditions of the refusals, in their order.
-use mathlib.Core.Bool.{true, false}
-use mathlib.Core.Path.{◌≡◌, sym, ◌∙◌}
-use lib.Dec.{T}
-use Rattle.angle.specs.Angle.{H, outside}
-use Rattle.angle.proofs.Judged.{number_is, within}
-use Rattle.parallel.specs.Refusal.{is_kind, unless}
-use Rattle.parallel.specs.Answer.{at_latitude}
-use Rattle.parallel.proofs.Rows.{columns}
+-- `parallel::at::at_latitude` meets its contract: the number of a kind answers as its kind, and any other is refused by 1.
+use mathlib.Core.Path.{◌∙◌}
+use borrow.Author.Rules.{rules}
+use mir.Facts.{to_z-of_z}
+use Rattle.refusal.specs.Outcome.{unless}
+use Rattle.parallel.specs.Answer.{on_latitude, at_latitude}
+use Rattle.parallel.proofs.Numbered.{known, unknown}
 use Rattle.parallel.proofs.at.at_latitude.Goals as goal
 
-pub returns-then-not-is_kind : goal.returns-then-not-is_kind
+pub returns-in_err-try_from : goal.returns-in_err-try_from
 unfolding at_latitude unless
-returns-then-not-is_kind c = rw (← c.is_kind.ensures, c.if-not-is_kind.true)
-
-pub returns-then-outside : goal.returns-then-outside
-unfolding at_latitude unless
-returns-then-outside c =
-    let k : is_kind c.args.kind ≡ true = sym c.is_kind.ensures ∙ c.if-not-is_kind.false in
-    let l = number_is c.new-latitude.result.count c.ranges.latitude c.new-latitude.ensures in
-    rw (k, ← l, ← c.outside.ensures, c.if-outside.true)
-
-pub of_row-requires : goal.of_row-requires
-of_row-requires c =
-    let k : T (is_kind c.args.kind) = rw (← c.is_kind.ensures, c.if-not-is_kind.false) tt in
-    record {
-      columns = rw c.row_of.ensures (columns c.args.kind k);
-      latitude = within H c.new-latitude.result.count c.outside.result c.outside.ensures c.if-outside.false;
-    }
+returns-in_err-try_from c =
+    let k = unknown c.args.kind c.in_err-try_from.field-0.0 c.in_err-try_from.ensures in
+    rw k.0 (search rules)
 
 pub returns : goal.returns
-unfolding at_latitude unless
+unfolding at_latitude on_latitude unless
 returns c =
-    let k : is_kind c.args.kind ≡ true = sym c.is_kind.ensures ∙ c.if-not-is_kind.false in
-    let l = number_is c.new-latitude.result.count c.ranges.latitude c.new-latitude.ensures in
-    let h : outside H c.args.latitude ≡ false = rw (c.outside.ensures, l) at c.if-outside.false in
-    rw (c.row_of.ensures, l) at c.of_row.ensures ∙ rw (k, h)
+    let k = known c.args.kind c.in_ok-try_from.field-0 c.in_ok-try_from.ensures in
+    rw (to_z-of_z c.ranges.latitude, k.1) at c.at_latitude.ensures ∙ rw k.0

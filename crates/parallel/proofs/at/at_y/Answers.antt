@@ -1,25 +1,20 @@
--- `parallel::at::at_y` meets its contract: its test is the condition of 1, and its row answers the rest.
-use mathlib.Core.Bool.{true}
-use mathlib.Core.Path.{◌≡◌, sym, ◌∙◌}
-use lib.Dec.{T}
-use Rattle.angle.proofs.Judged.{number_is}
-use Rattle.parallel.specs.Refusal.{is_kind, unless}
+-- `parallel::at::at_y` meets its contract: the number of a kind answers as its kind, and any other is refused by 1.
+use mathlib.Core.Path.{◌∙◌}
+use borrow.Author.Rules.{rules}
+use mir.Facts.{to_z-of_z}
+use Rattle.refusal.specs.Outcome.{unless}
 use Rattle.parallel.specs.Answer.{found_on, at_y}
-use Rattle.parallel.proofs.Rows.{columns}
+use Rattle.parallel.proofs.Numbered.{known, unknown}
 use Rattle.parallel.proofs.at.at_y.Goals as goal
 
-pub returns-then-not-is_kind : goal.returns-then-not-is_kind
+pub returns-in_err-try_from : goal.returns-in_err-try_from
 unfolding at_y unless
-returns-then-not-is_kind c = rw (← c.is_kind.ensures, c.if-not-is_kind.true)
-
-pub found_on-requires : goal.found_on-requires
-found_on-requires c =
-    let k : T (is_kind c.args.kind) = rw (← c.is_kind.ensures, c.if-not-is_kind.false) tt in
-    rw c.row_of.ensures (columns c.args.kind k)
+returns-in_err-try_from c =
+    let k = unknown c.args.kind c.in_err-try_from.field-0.0 c.in_err-try_from.ensures in
+    rw k.0 (search rules)
 
 pub returns : goal.returns
 unfolding at_y found_on unless
 returns c =
-    let k : is_kind c.args.kind ≡ true = sym c.is_kind.ensures ∙ c.if-not-is_kind.false in
-    let y = number_is c.split.result c.ranges.y c.split.ensures in
-    rw (c.row_of.ensures, y) at c.found_on.ensures ∙ rw k
+    let k = known c.args.kind c.in_ok-try_from.field-0 c.in_ok-try_from.ensures in
+    rw (to_z-of_z c.ranges.y, k.1) at c.at_y.ensures ∙ rw k.0

@@ -15,13 +15,15 @@ use Rattle.whole.specs.declared.Signed.{Signed}
 use Rattle.whole.specs.Signed.{join_of}
 use Rattle.angle.specs.Angle.{N}
 use Rattle.angle.proofs.Judged.{number_is}
-use Rattle.parallel.specs.Refusal.{Outcome, refused, given, unless}
+use Rattle.refusal.specs.Outcome.{Outcome, refused, given, unless}
+use Rattle.parallel.specs.Table.{row_of}
+use Rattle.parallel.proofs.Numbered.{known, unknown}
 use Rattle.parallel.proofs.Orders.{sides, by_sides}
 use Rattle.projection.specs.Longitude.{longitude_of}
 use Rattle.projection.specs.Inverse.{difference_at}
 use Rattle.projection.specs.Answer.{inverse_of}
 use Rattle.projection.proofs.Orders.{position_on}
-use Rattle.projection.proofs.Judged.{kind_good, judged, inverse_by}
+use Rattle.projection.proofs.Judged.{judged, inverse_by}
 use Rattle.projection.proofs.position.inverse.Goals as goal
 
 -- what the parallel found answers to x, by x's sign and size
@@ -40,55 +42,59 @@ module _ (central : ℤ) {x : ℤ} (s : Signed) (e : join_of s ≡ x) (w : ℕ) 
   inside : s.size ≤ w → given (longitude_of central (difference_at w x), latitude) ≡ o
   inside h = rw (le-ltb w s.size h) at on_sides
 
-pub returns-then-not-is_kind : goal.returns-then-not-is_kind
+pub returns-in_err-kind : goal.returns-in_err-kind
 unfolding inverse_of unless
-returns-then-not-is_kind c = rw (← c.is_kind.ensures, c.if-not-is_kind.true)
+returns-in_err-kind c = rw (unknown c.args.kind c.in_err-kind.field-0.0 c.in_err-kind.ensures).0 (search rules)
 
-pub returns-then-outside : goal.returns-then-outside
+pub returns-in_err-central : goal.returns-in_err-central
 unfolding inverse_of unless
-returns-then-outside c =
-    let k = kind_good c.args.kind c.is_kind.ensures c.if-not-is_kind.false in
-    let o = judged N c.new-central.result.count c.ranges.central c.new-central.ensures c.outside.ensures in
-    rw (k, o, c.if-outside.true)
+returns-in_err-central c =
+    let k = known c.args.kind c.in_ok-kind.kind c.in_ok-kind.ensures in
+    let o = judged N c.from.result.count c.ranges.central c.from.ensures c.in_err-central.ensures.0 in
+    rw (k.0, o) (search rules)
+
+pub returns-in_err-w : goal.returns-in_err-w
+returns-in_err-w c =
+    let s = c.args in
+    let k = known s.kind c.in_ok-kind.kind c.in_ok-kind.ensures in
+    let o = judged N c.from.result.count c.ranges.central c.from.ensures c.in_ok-central.ensures.0 in
+    let e = inverse_by s.kind s.central s.x s.y _ (rw (to_z-of_z c.ranges.y) at c.in_err-w.ensures) (ap row_of k.1) (rw k.0) o in
+    search rules
 
 pub returns-then-x : goal.returns-then-x
 returns-then-x c =
     let s = c.args in
-    let k = kind_good s.kind c.is_kind.ensures c.if-not-is_kind.false in
-    let o = judged N c.new-central.result.count c.ranges.central c.new-central.ensures c.outside.ensures ∙ c.if-outside.false in
+    let k = known s.kind c.in_ok-kind.kind c.in_ok-kind.ensures in
+    let o = judged N c.from.result.count c.ranges.central c.from.ensures c.in_ok-central.ensures.0 in
     let f =
-    inverse_by s.kind s.central s.x s.y (given (c.in-At.w, c.in-At.latitude)) (rw (to_z-of_z c.ranges.y) at c.in-At.ensures) k o in
-    let x = number_is c.split-x.result c.ranges.x c.split-x.ensures in
-    grind (arith, beyond s.central c.split-x.result x c.in-At.w c.in-At.latitude f (omega arith))
+    inverse_by s.kind s.central s.x s.y (given (c.in_ok-w.w, c.in_ok-w.latitude)) (rw (to_z-of_z c.ranges.y) at c.in_ok-w.ensures)
+    (ap row_of k.1) (rw k.0) o in
+    let x = number_is c.from-x.result c.ranges.x c.from-x.ensures in
+    grind (arith, beyond s.central c.from-x.result x c.in_ok-w.w c.in_ok-w.latitude f (omega arith))
 
 pub returns-else-x : goal.returns-else-x
 returns-else-x c =
     let s = c.args in
-    let k = kind_good s.kind c.is_kind.ensures c.if-not-is_kind.false in
-    let o = judged N c.new-central.result.count c.ranges.central c.new-central.ensures c.outside.ensures ∙ c.if-outside.false in
+    let k = known s.kind c.in_ok-kind.kind c.in_ok-kind.ensures in
+    let o = judged N c.from.result.count c.ranges.central c.from.ensures c.in_ok-central.ensures.0 in
     let f =
-    inverse_by s.kind s.central s.x s.y (given (c.in-At.w, c.in-At.latitude)) (rw (to_z-of_z c.ranges.y) at c.in-At.ensures) k o in
-    let x = number_is c.split-x.result c.ranges.x c.split-x.ensures in
-    grind (arith, beyond s.central c.split-x.result x c.in-At.w c.in-At.latitude f (omega arith))
+    inverse_by s.kind s.central s.x s.y (given (c.in_ok-w.w, c.in_ok-w.latitude)) (rw (to_z-of_z c.ranges.y) at c.in_ok-w.ensures)
+    (ap row_of k.1) (rw k.0) o in
+    let x = number_is c.from-x.result c.ranges.x c.from-x.ensures in
+    grind (arith, beyond s.central c.from-x.result x c.in_ok-w.w c.in_ok-w.latitude f (omega arith))
 
-pub returns-else-w-x : goal.returns-else-w-x
-returns-else-w-x c =
+pub returns : goal.returns
+returns c =
     let s = c.args in
-    let k = kind_good s.kind c.is_kind.ensures c.if-not-is_kind.false in
-    let o = judged N c.new-central.result.count c.ranges.central c.new-central.ensures c.outside.ensures ∙ c.if-outside.false in
+    let k = known s.kind c.in_ok-kind.kind c.in_ok-kind.ensures in
+    let o = judged N c.from.result.count c.ranges.central c.from.ensures c.in_ok-central.ensures.0 in
     let f =
-    inverse_by s.kind s.central s.x s.y (given (c.in-At.w, c.in-At.latitude)) (rw (to_z-of_z c.ranges.y) at c.in-At.ensures) k o in
-    let central = number_is c.new-central.result.count c.ranges.central c.new-central.ensures in
-    let x = number_is c.split-x.result c.ranges.x c.split-x.ensures in
+    inverse_by s.kind s.central s.x s.y (given (c.in_ok-w.w, c.in_ok-w.latitude)) (rw (to_z-of_z c.ranges.y) at c.in_ok-w.ensures)
+    (ap row_of k.1) (rw k.0) o in
+    let x = number_is c.from-x.result c.ranges.x c.from-x.ensures in
+    let central = ap join_of c.in_ok-central.ensures.1 ∙ number_is c.from.result.count c.ranges.central c.from.ensures in
     let f1 : SFits w32 c.longitude_on.result = search rules in
-    let f2 : SFits w32 c.in-At.latitude = search rules in
+    let f2 : SFits w32 c.in_ok-w.latitude = search rules in
     rw (to_z-of_z f1, to_z-of_z f2)
-    (ap (λ (l : ℤ). given (l, c.in-At.latitude)) (rw (central, x) at c.longitude_on.ensures)
-    ∙ inside s.central c.split-x.result x c.in-At.w c.in-At.latitude f (omega arith))
-
-pub returns-in-Refused : goal.returns-in-Refused
-returns-in-Refused c =
-    let s = c.args in
-    let k = kind_good s.kind c.is_kind.ensures c.if-not-is_kind.false in
-    let o = judged N c.new-central.result.count c.ranges.central c.new-central.ensures c.outside.ensures ∙ c.if-outside.false in
-    inverse_by s.kind s.central s.x s.y (refused c.in-Refused.n) (rw (to_z-of_z c.ranges.y) at c.in-Refused.ensures) k o
+    (ap (λ (l : ℤ). given (l, c.in_ok-w.latitude)) (rw (central, x) at c.longitude_on.ensures)
+    ∙ inside s.central c.from-x.result x c.in_ok-w.w c.in_ok-w.latitude f (omega arith))
