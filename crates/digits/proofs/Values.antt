@@ -8,8 +8,9 @@ use native.Mathlib.Numerals.{add-one}
 use native.Mathlib.Omega.{arith}
 use borrow.Author.Tests.{le-leb, leb-true}
 use lib.Dec.{leb}
-use lib.ListN.{length, get_or, drop, length-append}
+use lib.ListN.{length, get_or, drop, set, length-append}
 use lib.Seq.{drop-cons, append_snoc}
+use Rattle.std.proofs.lemmas.List.{drop-set}
 use Rattle.digits.specs.Digits.{nought, nine, is_digit, AllDigits, last_digits, value_from, value_of}
 
 -- ---- a digit
@@ -34,6 +35,15 @@ unfolding last_digits
 last_length zero n = refl
 last_length (suc k) n =
     length-append (last_digits k (n / 10)) ((nought + n % 10) ∷ []) ∙ add-one (length (last_digits k (n / 10))) ∙ ap suc (last_length k (n / 10))
+
+-- a digit put in front of those that stand: the last of the number that is left
+pub digit_put : (piece : List ℕ) (i n : ℕ) → 0 < i → i ≤ length piece →
+    last_digits (i - 1) (n / 10) ++ drop (i - 1) (set piece (i - 1) (nought + n % 10)) ≡ last_digits i n ++ drop i piece
+unfolding last_digits
+digit_put piece zero n h k = absurd (omega arith)
+digit_put piece (suc i) n h k =
+    let e : suc i - 1 ≡ i = omega arith in
+    rw (e, drop-set piece i (nought + n % 10) k, add-one i) (sym (append_snoc (last_digits i (n / 10)) (nought + n % 10) (drop (suc i) piece)))
 
 digits_behind : (ds : List ℕ) (d : ℕ) → AllDigits ds → is_digit d ≡ true → AllDigits (ds ++ (d ∷ []))
 digits_behind [] d a e = (e, tt)

@@ -5,13 +5,13 @@ ghost use Rattle.std.specs.Prelude.{◌≡◌, length};
 ghost use Rattle.digits.specs.Digits.{is_digit, last_digits};
 
 // Fills a piece with the last digits of n, with zeros in front where it has fewer.
+#[tactic(auto, using(crate::proofs::Values::digit_put), unfolding(crate::specs::Digits::last_digits))]
 pub fn put_digits(piece: &mut [u8], n: u64)
     ensures { piece.new ≡ last_digits (length piece.old) n }
 {
-    let mut i = piece.len();
     let mut rest = n;
-    while i > 0 {
-        i -= 1;
+    // by places: through `iter_mut().rev()` the goal `returns` stays open
+    for i in (0..piece.len()).rev() {
         piece[i] = b'0' + (rest % 10) as u8;
         rest /= 10;
     }
@@ -20,5 +20,5 @@ pub fn put_digits(piece: &mut [u8], n: u64)
 pub fn is_digit(byte: u8) -> bool
     ensures { result ≡ is_digit byte }
 {
-    b'0' <= byte && byte <= b'9'
+    byte.is_ascii_digit()
 }

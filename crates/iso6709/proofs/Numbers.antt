@@ -1,14 +1,15 @@
 -- The numbers in a text: digits stand where they are read, and what they stand for fits.
-use mathlib.Core.Path.{◌≡◌, refl, ap, ◌∙◌}
+use mathlib.Core.Path.{◌≡◌, refl, sym, ap, ◌∙◌}
 use mathlib.Core.Bool.{true}
 use mathlib.Core.List.{List, [], ◌∷◌}
-use Prim.Native.Nat.{ℕ, zero, suc, ◌+◌, ◌^◌, ◌≤◌, ◌<◌}
+use Prim.Native.Nat.{ℕ, zero, suc, ◌+◌, ◌-◌, ◌*◌, ◌^◌, ◌≤◌, ◌<◌}
 use native.Mathlib.Nat.{pow-le-pow_right}
+use native.Mathlib.Numerals.{add-one}
 use native.Mathlib.Omega.{arith}
-use lib.ListN.{length, get_or, drop, length-drop}
-use lib.Seq.{drop-cons, length-take-le, get_or-take, get_or-drop}
-use Rattle.digits.specs.Digits.{is_digit, AllDigits, value_of}
-use Rattle.digits.proofs.Values.{value_below}
+use lib.ListN.{length, get_or, drop, length-drop, drop_of_length-le}
+use lib.Seq.{drop-cons, length-take-le}
+use Rattle.digits.specs.Digits.{is_digit, AllDigits, value_from, value_of}
+use Rattle.digits.proofs.Values.{value_next, value_grows, value_below}
 use Rattle.iso6709.specs.Numbers.{Narrow, HasDigits}
 use Rattle.shape.specs.Shape.{shape, stand}
 use Rattle.shape.proofs.Standing.{long, may}
@@ -18,9 +19,6 @@ use Rattle.iso6709.specs.Part.{bytes_at, part_at}
 
 pub bytes_long : (text : List ℕ) (at count : ℕ) → at + count ≤ length text → length (bytes_at text at count) ≡ count
 bytes_long text at count h = length-take-le count (drop at text) (omega (arith, length-drop at text))
-
-pub byte_in : (text : List ℕ) (at count i : ℕ) → i < count → get_or (bytes_at text at count) i 0 ≡ get_or text (at + i) 0
-byte_in text at count i h = get_or-take count (drop at text) i 0 h ∙ get_or-drop at text i 0
 
 -- the bytes of a text, one by one
 abbrev pub listed : List ℕ → ℕ → ℕ → List ℕ
@@ -33,6 +31,24 @@ bytes_listed text at (suc count) h = rw (drop-cons text at 0 (omega arith)) (ap 
 
 digits_at : (text : List ℕ) (at count : ℕ) → at + count ≤ length text → AllDigits (listed text at count) → AllDigits (bytes_at text at count)
 digits_at text at count h d = rw (bytes_listed text at count h) d
+
+-- ---- the number of digits, read one by one: at digit i, none so far is more than the one that all stand for
+
+module _ (digits : List ℕ) (value i : ℕ) (so_far : value_from value (drop i digits) ≡ value_of digits) where
+  pub number_next : i < length digits → value_from (value * 10 + (get_or digits i 0 - 48)) (drop (i + 1) digits) ≡ value_of digits
+  number_next h = rw (add-one i) (sym (value_next digits value i h) ∙ so_far)
+
+  pub number_small : AllDigits digits → length digits ≤ 3 → i < length digits → value * 10 + (get_or digits i 0 - 48) < 1000
+  number_small all few h =
+      let g = value_grows (drop (i + 1) digits) (value * 10 + (get_or digits i 0 - 48)) in
+      let p : 10 ^ length digits ≤ 10 ^ 3 = pow-le-pow_right (omega arith) few in
+      omega (arith, number_next h, value_below digits all)
+
+  pub number_done : length digits ≤ i → value ≡ value_of digits
+  unfolding value_from
+  number_done h = rw (drop_of_length-le digits h) at so_far
+
+-- ---- a part's digits
 
 module _ (text : List ℕ) (st : stand shape text ≡ true) where
   -- two digits that stand at places of digits

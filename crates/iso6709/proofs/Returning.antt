@@ -16,7 +16,8 @@ use Rattle.whole.proofs.Tests.{both}
 use Rattle.angle.specs.Angle.{N, H}
 use Rattle.digits.specs.Digits.{AllDigits, last_digits, value_of}
 use Rattle.digits.proofs.Values.{last_digit, value_last, last_value}
-use Rattle.parallel.specs.Refusal.{given, unless, bad_latitude}
+use Rattle.refusal.specs.Outcome.{given, unless}
+use Rattle.parallel.specs.Refusal.{bad_latitude}
 use Rattle.parallel.proofs.Orders.{Passes, passes, all_pass}
 use Rattle.projection.specs.Refusal.{bad_longitude}
 use Rattle.angle.specs.declared.sexagesimal.Sexagesimal.{Sexagesimal}

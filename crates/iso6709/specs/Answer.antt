@@ -2,10 +2,9 @@
 use Rattle.std.specs.Prelude.{List, [], ◌∷◌, ◌++◌, ℕ, ℤ, length}
 use Rattle.whole.specs.declared.Signed.{Signed}
 use Rattle.whole.specs.Signed.{split_of, join_of}
-use Rattle.parallel.specs.Refusal.{Refusal, Outcome, refused, given, unless, bad_latitude}
+use Rattle.refusal.specs.Outcome.{Rule, Outcome, unless}
+use Rattle.parallel.specs.Refusal.{bad_latitude}
 use Rattle.projection.specs.Refusal.{bad_longitude}
-use Rattle.iso6709.specs.declared.answer.TextAnswer.{TextAnswer}
-use Rattle.iso6709.specs.declared.answer.TextAnswer.TheVariants.{Written, Refused}
 use Rattle.angle.specs.declared.sexagesimal.Sexagesimal.{Sexagesimal}
 use Rattle.angle.specs.Sexagesimal.{sexagesimal_of, signed_of}
 use Rattle.shape.specs.Shape.{slash}
@@ -24,13 +23,13 @@ abbrev pub position_in : Signed → Signed → ℤ × ℤ
 position_in longitude latitude = (join_of longitude, join_of latitude)
 
 -- the order of the refusals of a text, and of what stands in it: two angles as they are written, and by sign and size
-abbrev pub position_order : Signed → Signed → List Refusal
+abbrev pub position_order : Signed → Signed → List Rule
 position_order longitude latitude = bad_zero longitude latitude ∷ bad_latitude (join_of latitude) ∷ bad_longitude (join_of longitude) ∷ []
 
-abbrev pub angles_order : Sexagesimal → Sexagesimal → List Refusal
+abbrev pub angles_order : Sexagesimal → Sexagesimal → List Rule
 angles_order longitude latitude = bad_sixties longitude latitude ∷ position_order (signed_of longitude) (signed_of latitude)
 
-abbrev pub read_order : List ℕ → List Refusal
+abbrev pub read_order : List ℕ → List Rule
 read_order text = bad_length (length text) ∷ bad_shape text ∷ angles_order (longitude_in text) (latitude_in text)
 
 -- what each is answered
@@ -51,13 +50,8 @@ abbrev pub text_of : ℤ → ℤ → List ℕ
 text_of longitude latitude = both_of (sexagesimal_of (split_of longitude)) (sexagesimal_of (split_of latitude))
 
 -- what a position is answered, for a lent text of so many bytes: the bytes to be written
-abbrev pub write_order : ℤ → ℤ → ℕ → List Refusal
+abbrev pub write_order : ℤ → ℤ → ℕ → List Rule
 write_order longitude latitude room = bad_length room ∷ bad_latitude latitude ∷ bad_longitude longitude ∷ []
 
 unfoldable pub write_of : ℤ → ℤ → ℕ → Outcome (List ℕ)
 write_of longitude latitude room = unless (write_order longitude latitude room) (text_of longitude latitude)
-
--- the code's answer
-abbrev pub answer_of : Outcome (List ℕ) → TextAnswer
-answer_of (given bytes) = Written
-answer_of (refused n) = Refused n

@@ -1,11 +1,15 @@
-// The parts of a text: where each begins, and how many digits of degrees it has.
-pub(crate) const LATITUDE: usize = 0;
+// The parts of a text.
 
-pub(crate) const LATITUDE_WIDTH: usize = 2;
+// An angle's part: where it begins, and how many digits of degrees it has.
+#[derive(Clone, Copy)]
+pub(crate) struct Part {
+    pub at: usize,
+    pub width: usize,
+}
 
-pub(crate) const LONGITUDE: usize = 10;
+pub(crate) const LATITUDE: Part = Part { at: 0, width: 2 };
 
-pub(crate) const LONGITUDE_WIDTH: usize = 3;
+pub(crate) const LONGITUDE: Part = Part { at: 10, width: 3 };
 
 // Where the slash stands.
 pub(crate) const END: usize = 21;

@@ -1,73 +1,62 @@
 // A text's position.
-ghost use Rattle.std.specs.Prelude.{◌≡◌, ◌+◌, ◌≤◌, length};
+ghost use Rattle.std.specs.Prelude.{◌≡◌, ◌≤◌, length};
 ghost use Rattle.digits.specs.Digits.{AllDigits, value_of};
-ghost use Rattle.projection.specs.Answer.{meaning};
+ghost use Rattle.refusal.specs.Number.{meaning};
 ghost use Rattle.angle.specs.Sexagesimal.{signed_of};
-ghost use Rattle.iso6709.specs.Part.{bytes_at, part_at};
+ghost use Rattle.iso6709.specs.Part.{part_at};
 ghost use Rattle.iso6709.specs.Numbers.{HasDigits, Narrow};
 ghost use Rattle.iso6709.specs.Refusal.{is_minus_zero};
 ghost use Rattle.iso6709.specs.Answer.{position_of, angles_of, read_of};
 
-use super::layout::{LATITUDE, LATITUDE_WIDTH, LONGITUDE, LONGITUDE_WIDTH};
-use angle::{Angle, Sexagesimal};
-use projection::Answer;
+use super::layout::{LATITUDE, LONGITUDE, Part};
+use angle::{Angle, Latitude, Longitude, Sexagesimal};
+use refusal::Refusal;
 use shape::{SIZE, stand};
 use whole::Signed;
 
 // The position of a text, longitude and latitude; or the first refusal of 12, 13, 14, 15, 5 and 4.
-#[tactic(auto, using(crate::proofs::Numbers::has_latitude, crate::proofs::Numbers::has_longitude, crate::proofs::Numbers::narrow), unfolding(crate::specs::Answer::read_of, crate::specs::Answer::angles_of, parallel::specs::Refusal::unless))]
-pub fn read_text(text: &[u8]) -> Answer
+#[tactic(auto, using(crate::proofs::Numbers::has_latitude, crate::proofs::Numbers::has_longitude, crate::proofs::Numbers::narrow), unfolding(crate::specs::Answer::read_of, crate::specs::Answer::angles_of, refusal::specs::Outcome::unless))]
+pub fn read_text(text: &[u8]) -> Result<(i32, i32), Refusal>
     ensures { meaning result ≡ read_of text.now }
 {
     if text.len() != SIZE {
-        return Answer::Refused(12);
+        return Err(Refusal::TextLength);
     }
     if !stand(text) {
-        return Answer::Refused(13);
+        return Err(Refusal::TextShape);
     }
-    let latitude = part_at(text, LATITUDE, LATITUDE_WIDTH);
-    let longitude = part_at(text, LONGITUDE, LONGITUDE_WIDTH);
-    angles(longitude, latitude)
+    angles(part_at(text, LONGITUDE), part_at(text, LATITUDE))
 }
 
 // The position of two angles as they are written; or the first refusal of 14, 15, 5 and 4.
-#[tactic(auto, unfolding(crate::specs::Answer::angles_of, crate::specs::Answer::position_of, parallel::specs::Refusal::unless))]
-fn angles(longitude: Sexagesimal, latitude: Sexagesimal) -> Answer
+#[tactic(auto, unfolding(crate::specs::Answer::angles_of, crate::specs::Answer::position_of, refusal::specs::Outcome::unless))]
+fn angles(longitude: Sexagesimal, latitude: Sexagesimal) -> Result<(i32, i32), Refusal>
     requires { Narrow longitude × Narrow latitude }
     ensures { meaning result ≡ angles_of longitude latitude }
 {
-    if !latitude.below_sixty() {
-        return Answer::Refused(14);
-    }
-    if !longitude.below_sixty() {
-        return Answer::Refused(14);
+    if !(latitude.below_sixty() && longitude.below_sixty()) {
+        return Err(Refusal::Sixties);
     }
     position(signed(longitude), signed(latitude))
 }
 
 // The position of two angles by sign and size; or the first refusal of 15, 5 and 4.
-#[tactic(auto, using(whole::proofs::Signs::join_back), unfolding(crate::specs::Answer::position_of, parallel::specs::Refusal::unless))]
-fn position(longitude: Signed, latitude: Signed) -> Answer
+#[tactic(auto, using(whole::proofs::Signs::join_back), unfolding(crate::specs::Answer::position_of, refusal::specs::Outcome::unless))]
+fn position(longitude: Signed, latitude: Signed) -> Result<(i32, i32), Refusal>
     ensures { meaning result ≡ position_of longitude latitude }
 {
-    if is_minus_zero(latitude) {
-        return Answer::Refused(15);
+    if is_minus_zero(latitude) || is_minus_zero(longitude) {
+        return Err(Refusal::MinusZero);
     }
-    if is_minus_zero(longitude) {
-        return Answer::Refused(15);
-    }
-    let north = Angle { count: latitude };
-    if north.outside(Angle::H) {
-        return Answer::Refused(5);
-    }
-    let east = Angle { count: longitude };
-    if east.outside(Angle::N) {
-        return Answer::Refused(4);
-    }
-    Answer::Pair(longitude.join() as i32, latitude.join() as i32)
+    let latitude: Latitude = Angle { count: latitude }.within(Refusal::Latitude)?;
+    let longitude: Longitude = Angle { count: longitude }.within(Refusal::Longitude)?;
+    Ok((
+        i64::from(longitude.count) as i32,
+        i64::from(latitude.count) as i32,
+    ))
 }
 
-// An angle by sign and size.
+// An angle by sign and size. No `From`, since it asks for numbers that fit.
 fn signed(angle: Sexagesimal) -> Signed
     requires { Narrow angle }
     ensures { result ≡ signed_of angle }
@@ -84,32 +73,31 @@ fn is_minus_zero(angle: Signed) -> bool
     angle.negative && angle.size == 0
 }
 
-// The angle in the part of a text at a place, with so many digits of degrees.
+// The angle in a part of a text.
 #[tactic(auto, unfolding(crate::specs::Part::part_at))]
-fn part_at(text: &[u8], at: usize, width: usize) -> Sexagesimal
-    requires { HasDigits text.now at width }
-    ensures { result ≡ part_at text.now at width }
+fn part_at(text: &[u8], part: Part) -> Sexagesimal
+    requires { HasDigits text.now part.at part.width }
+    ensures { result ≡ part_at text.now part.at part.width }
 {
-    let minutes = at + 1 + width;
+    let minutes = part.at + 1 + part.width;
     Sexagesimal {
-        negative: text[at] == b'-',
-        degrees: number_at(text, at + 1, width),
-        minutes: number_at(text, minutes, 2),
-        seconds: number_at(text, minutes + 2, 2),
-        hundredths: number_at(text, minutes + 5, 2),
+        negative: text[part.at] == b'-',
+        degrees: number(&text[part.at + 1..minutes]),
+        minutes: number(&text[minutes..minutes + 2]),
+        seconds: number(&text[minutes + 2..minutes + 4]),
+        hundredths: number(&text[minutes + 5..minutes + 7]),
     }
 }
 
-// The number that so many digits at a place of a text stand for.
-fn number_at(text: &[u8], at: usize, count: usize) -> u32
-    requires { AllDigits (bytes_at text.now at count) × (at + count ≤ length text.now) × (count ≤ 3) }
-    ensures { result ≡ value_of (bytes_at text.now at count) }
+// The number that digits stand for.
+#[tactic(auto, using(crate::proofs::Numbers::number_next, crate::proofs::Numbers::number_small, crate::proofs::Numbers::number_done))]
+fn number(digits: &[u8]) -> u32
+    requires { AllDigits digits.now × (length digits.now ≤ 3) }
+    ensures { result ≡ value_of digits.now }
 {
-    let mut value: u32 = 0;
-    let mut i = 0;
-    while i < count {
-        value = value * 10 + (text[at + i] - b'0') as u32;
-        i += 1;
+    let mut value = 0;
+    for digit in digits {
+        value = value * 10 + u32::from(digit - b'0');
     }
     value
 }

@@ -1,3 +1,2 @@
-pub mod Complement
 pub mod Wholes
 pub mod Numbers

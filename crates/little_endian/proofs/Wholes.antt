@@ -5,7 +5,7 @@ use Prim.Native.Nat.{ℕ, zero, suc, ◌+◌, ◌-◌, ◌*◌, ◌/◌, ◌%◌
 use native.Mathlib.Nat.{pow-suc, pow-le-pow_right}
 use native.Mathlib.Omega.{arith}
 use lib.ListN.{length, get_or, set, take, drop, length-set}
-use lib.Seq.{length-take-le, drop-cons, get_or-take, take-suc-set, sets-eq}
+use lib.Seq.{drop-cons, take-suc-set}
 use Rattle.little_endian.specs.Whole.{whole_of, least_bytes}
 
 pub least_length : (k n : ℕ) → length (least_bytes k n) ≡ k
@@ -42,19 +42,29 @@ four_at l at h =
 
 -- ---- a byte more that is read, from the last to the first
 
-pub more_places : (v b m : ℕ) → v < 256 ^ m → b < 256 → v * 256 + b < 256 ^ suc m
-more_places v b m h k = rw (pow-suc 256 m) (omega arith)
+-- the number of bytes with those of another number behind them
+abbrev pub whole_before : List ℕ → ℕ → ℕ
+whole_before [] v = v
+whole_before (b ∷ bs) v = b + 256 * whole_before bs v
 
--- 8 bytes are 64 bits
-pub in_64_bits : (m : ℕ) → m ≤ 8 → 256 ^ m ≤ 18446744073709551616
-in_64_bits m h = pow-le-pow_right {n = 256} (omega arith) h
+pub before_byte : (bs : List ℕ) (b v : ℕ) → whole_before (bs ++ b ∷ []) v ≡ whole_before bs (v * 256 + b)
+before_byte [] b v = omega arith
+before_byte (c ∷ bs) b v = ap (λ (n : ℕ). c + 256 * n) (before_byte bs b v)
 
-pub next_read : (bytes : List ℕ) (count j : ℕ) → count ≤ length bytes → j < count →
-    whole_of (drop (suc j) (take count bytes)) * 256 + get_or bytes j 0 ≡ whole_of (drop j (take count bytes))
-next_read bytes count j h k =
-    let l : length (take count bytes) ≡ count = length-take-le count bytes h in
-    let d : j < length (take count bytes) = omega arith in
-    rw (drop-cons (take count bytes) j 0 d, get_or-take count bytes j 0 k) (omega arith)
+pub before_none : (bs : List ℕ) → whole_before bs 0 ≡ whole_of bs
+before_none [] = refl
+before_none (b ∷ bs) = ap (λ (n : ℕ). b + 256 * n) (before_none bs)
+
+-- what was read is no more than the whole
+pub le_before : (bs : List ℕ) (v : ℕ) → v ≤ whole_before bs v
+le_before [] v = omega arith
+le_before (b ∷ bs) v = let h = le_before bs v in omega arith
+
+-- k bytes have a number below 256 ^ k
+pub whole_first : (k : ℕ) (bs : List ℕ) → ((i : ℕ) → get_or bs i 0 < 256) → whole_of (take k bs) < 256 ^ k
+whole_first zero bs h = omega arith
+whole_first (suc k) [] h = let p : 256 ^ 0 ≤ 256 ^ suc k = pow-le-pow_right {n = 256} (omega arith) {i = 0} (omega arith) in omega arith
+whole_first (suc k) (b ∷ bs) h = let r = whole_first k bs (λ i. h (suc i)) in let t = h 0 in rw (pow-suc 256 k) (omega arith)
 
 -- ---- a byte more that is written: what stands in front, and the bytes that are left
 
@@ -70,17 +80,3 @@ one_written piece all i rest h e =
     let left : length piece - i ≡ suc (length piece - suc i) = omega arith in
     rw (length-set piece i (rest % 256), one)
     (next_written piece i (length piece - suc i) rest h ∙ rw left at e)
-
--- ---- four bytes that are written, one after the other
-
-pub stores : (l : List ℕ) (at n : ℕ) → at + 4 ≤ length l → n < 4294967296 →
-    set (set (set (set l at (n % 256)) (at + 1) (n / 256 % 256)) (at + 2) (n / 65536 % 256)) (at + 3) (n / 16777216)
-    ≡ take at l ++ (least_bytes 4 n ++ drop (at + 4) l)
-stores l at n h k =
-    let one : at + 1 ≡ suc at = omega arith in
-    let two : at + 2 ≡ suc (suc at) = omega arith in
-    let three : at + 3 ≡ suc (suc (suc at)) = omega arith in
-    let bytes : List ℕ = n % 256 ∷ n / 256 % 256 ∷ n / 65536 % 256 ∷ n / 16777216 ∷ [] in
-    rw (one, two, three) (sets-eq bytes l at h)
-    ∙ append_assoc (take at l) bytes (drop (at + 4) l)
-    ∙ ap (λ (four : List ℕ). take at l ++ (four ++ drop (at + 4) l)) (least_four n k)

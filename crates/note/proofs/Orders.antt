@@ -3,7 +3,7 @@ use mathlib.Core.List.{List}
 use mathlib.Core.Path.{◌≡◌}
 use Prim.Native.Nat.{ℕ}
 use lib.ListN.{length}
-use Rattle.parallel.specs.Refusal.{refused, given, unless}
+use Rattle.refusal.specs.Outcome.{refused, given, unless}
 use Rattle.parallel.proofs.Orders.{Applies, Passes}
 use Rattle.note.specs.declared.form.Form.{Form}
 use Rattle.note.specs.Note.{note_of, counts_in}

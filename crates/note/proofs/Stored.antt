@@ -5,22 +5,17 @@ use mathlib.Core.Path.{◌≡◌, refl, sym, ap, subst, ◌∙◌}
 use Prim.Native.Nat.{ℕ, suc, ◌+◌, ◌≤◌}
 use native.Mathlib.Omega.{arith}
 use borrow.Author.Tests.{le-ltb, ltb-false, eq-eqb}
-use lib.Dec.{lit<}
 use lib.ListN.{length, take, drop, length-append}
 use lib.Seq.{take_at, drop_at, take_all}
-use Rattle.parallel.specs.Refusal.{given}
+use Rattle.refusal.specs.Outcome.{given}
 use Rattle.parallel.proofs.Orders.{passes, all_pass}
 use Rattle.little_endian.specs.Whole.{whole_of, least_bytes}
 use Rattle.little_endian.proofs.Wholes.{least_length, whole_least}
 use Rattle.note.specs.declared.form.Form.{Form}
-use Rattle.note.specs.Form.{Sound}
-use Rattle.note.specs.Note.{narrow, size_of, note_of, number_at, counts_in}
+use Rattle.note.specs.Note.{size_of, note_of, number_at, counts_in}
 use Rattle.note.specs.Refusal.{bad_length, bad_mark, too_many, is_past}
 use Rattle.note.specs.Answer.{written_as, read_as}
 use Rattle.note.proofs.Orders.{written, read}
-
-pub narrow_sound : Sound narrow
-narrow_sound = record { width = omega arith; cap = lit< tt }
 
 pub note_length : (form : Form) (counts : ℕ × ℕ) → length (note_of form counts) ≡ size_of form
 unfolding note_of
@@ -29,7 +24,7 @@ note_length form counts =
     rw (length-append (least_bytes w counts.0) (least_bytes w counts.1), least_length w counts.0, least_length w counts.1)
     (omega arith)
 
-module _ (form : Form) (counts : ℕ × ℕ) (sound : Sound form) (h : counts.0 + counts.1 ≤ form.cap) where
+module _ (form : Form) (counts : ℕ × ℕ) (h : counts.0 + counts.1 ≤ form.cap) where
   abbrev w : ℕ
   w = form.width
 
@@ -51,7 +46,7 @@ module _ (form : Form) (counts : ℕ × ℕ) (sound : Sound form) (h : counts.0 
   counts_back : counts_in form note ≡ counts
   unfolding number_at note_of
   counts_back =
-      let f = sound.cap in
+      let f = form.cap_fits in
       let n = least_length w counts.1 in
       let m : whole_of (take w (moved ++ refused)) ≡ counts.0 =
       rw (take_at moved refused w (least_length w counts.0)) (whole_least w counts.0 (omega arith)) in

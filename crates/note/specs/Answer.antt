@@ -1,19 +1,15 @@
 -- What writing a note and reading one answer.
 use Rattle.std.specs.Prelude.{List, [], ◌∷◌, ℕ, length}
-use Rattle.parallel.specs.Refusal.{Refusal, Outcome, refused, given, unless}
+use Rattle.refusal.specs.Outcome.{Rule, Outcome, unless}
 use Rattle.note.specs.declared.form.Form.{Form}
-use Rattle.note.specs.declared.answer.NoteAnswer.{NoteAnswer}
-use Rattle.note.specs.declared.answer.NoteAnswer.TheVariants.{Accepted, Refused}
-use Rattle.note.specs.declared.answer.NoteCounts.{NoteCounts}
-use Rattle.note.specs.declared.answer.NoteCounts.TheVariants.{Counts, Refused as NotRead}
 use Rattle.note.specs.Note.{narrow, note_of, counts_in}
 use Rattle.note.specs.Refusal.{bad_length, bad_mark, too_many}
 
 -- the orders of the refusals: two counts and the length of the piece that is lent for the note, or the bytes of a note
-abbrev pub write_order : Form → ℕ × ℕ → ℕ → List Refusal
+abbrev pub write_order : Form → ℕ × ℕ → ℕ → List Rule
 write_order form counts room = bad_length form room ∷ too_many form counts ∷ []
 
-abbrev pub read_order : Form → List ℕ → List Refusal
+abbrev pub read_order : Form → List ℕ → List Rule
 read_order form note = bad_length form (length note) ∷ bad_mark form note ∷ too_many form (counts_in form note) ∷ []
 
 -- what each is answered: the bytes to be written, or the counts that were read
@@ -29,12 +25,3 @@ write_of = written_as narrow
 
 abbrev pub read_of : List ℕ → Outcome (ℕ × ℕ)
 read_of = read_as narrow
-
--- the code's answers: that it was done, or the refusal's number; and what reading answered, in numbers
-abbrev pub answer_of : {A : Type 0} → Outcome A → NoteAnswer
-answer_of (given a) = Accepted
-answer_of (refused n) = Refused n
-
-abbrev pub counts_meaning : NoteCounts → Outcome (ℕ × ℕ)
-counts_meaning (Counts moved denied) = given (moved, denied)
-counts_meaning (NotRead n) = refused n

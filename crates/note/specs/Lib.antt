@@ -1,4 +1,3 @@
 pub mod Note
-pub mod Form
 pub mod Refusal
 pub mod Answer

@@ -1,5 +1,6 @@
 -- The handover note: a mark of two bytes, then moved and refused, each in as many bytes as the note's form says, the least first.
 use Rattle.std.specs.Prelude.{Bool, false, cond, List, ◌∷◌, ◌++◌, ℕ, ◌+◌, eqb, get_or, take, drop}
+use Rattle.std.proofs.Common.{lit≤, lit<}
 use Rattle.little_endian.specs.Whole.{whole_of, least_bytes}
 use Rattle.note.specs.declared.form.Form.{Form}
 
@@ -9,7 +10,7 @@ cap = 1000000000
 
 -- a form: the mark's second byte, the bytes of a number, and the greatest sum of the two numbers
 abbrev pub narrow : Form
-narrow = record { mark = 0xD3; width = 4; cap = cap }
+narrow = record { mark = 0xD3; width = 4; cap = cap; in_64_bits = lit≤ tt; cap_fits = lit< tt }
 
 abbrev pub size_of : Form → ℕ
 size_of form = 2 + form.width + form.width

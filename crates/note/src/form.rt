@@ -1,26 +1,24 @@
 // A form of the note, and the bytes of a note that has it.
-ghost use Rattle.std.specs.Prelude.{◌≡◌, ◌+◌, ◌≤◌, length};
-ghost use Rattle.digits.specs.Put.{Put};
-ghost use Rattle.little_endian.specs.Whole.{least_bytes};
-ghost use Rattle.note.specs.Note.{narrow, size_of, note_of, has_mark, number_at};
-ghost use Rattle.note.specs.Refusal.{is_past};
-ghost use Rattle.note.specs.Form.{Sound};
+ghost use Rattle.std.specs.Prelude.{◌^◌, ◌≤◌, ◌<◌};
 
 use little_endian::{get_whole, put_whole};
+use refusal::Refusal;
 
-// The mark's second byte, the bytes of a number, and the greatest sum of the two numbers.
+// The mark's second byte, the bytes of a number, and the greatest sum of the two counts.
 #[derive(Clone, Copy)]
 pub struct Form {
-    pub mark: u8,
-    pub width: usize,
-    pub cap: u64,
+    mark: u8,
+    width: usize,
+    cap: u64,
+    ghost in_64_bits: { width ≤ 8 },
+    ghost cap_fits: { cap < 256 ^ width },
 }
 
 // The mark's first byte.
 const MARK: u8 = 0x4D;
 
 // The bytes of the mark, and of a number.
-pub(crate) const MARK_SIZE: usize = 2;
+const MARK_SIZE: usize = 2;
 
 const NARROW_WIDTH: usize = 4;
 
@@ -31,6 +29,13 @@ pub const SIZE: usize = MARK_SIZE + NARROW_WIDTH + NARROW_WIDTH;
 pub const CAP: u64 = 1_000_000_000;
 
 impl Form {
+    ghost use Rattle.std.specs.Prelude.{◌≡◌, length};
+    ghost use Rattle.refusal.specs.Outcome.{or_else};
+    ghost use Rattle.refusal.specs.Number.{meaning, done};
+    ghost use Rattle.note.specs.Note.{narrow, size_of, note_of, has_mark, counts_in};
+    ghost use Rattle.note.specs.Refusal.{is_past};
+    ghost use Rattle.note.specs.Answer.{written_as, read_as};
+
     // The form of 10 bytes, with numbers of 32 bits.
     pub(crate) fn narrow() -> Form
         ensures { result ≡ narrow }
@@ -42,57 +47,84 @@ impl Form {
         }
     }
 
+    // Writes a note of counts, moved and refused; or answers the first refusal of 8 and 16, and leaves `note` as it is.
+    #[tactic(auto, unfolding(crate::specs::Answer::written_as, refusal::specs::Outcome::unless))]
+    pub(crate) fn write(self, counts: (u64, u64), note: &mut [u8]) -> Result<(), Refusal>
+        ensures value { meaning result ≡ done (written_as self counts (length note.old)) }
+        ensures note_after { note.new ≡ or_else note.old (written_as self counts (length note.old)) }
+    {
+        if note.len() != self.size() {
+            return Err(Refusal::Length);
+        }
+        if self.is_past(counts) {
+            return Err(Refusal::Counts);
+        }
+        self.put(note, counts);
+        Ok(())
+    }
+
+    // The counts in a note; or the first refusal of 8, 9 and 16.
+    #[tactic(auto, unfolding(crate::specs::Answer::read_as, refusal::specs::Outcome::unless))]
+    pub(crate) fn read(self, note: &[u8]) -> Result<(u64, u64), Refusal>
+        ensures { meaning result ≡ read_as self note.now }
+    {
+        if note.len() != self.size() {
+            return Err(Refusal::Length);
+        }
+        if !self.has_mark(note) {
+            return Err(Refusal::Mark);
+        }
+        let counts = self.counts_in(note);
+        if self.is_past(counts) {
+            return Err(Refusal::Counts);
+        }
+        Ok(counts)
+    }
+
     // The length of a note of this form.
-    pub(crate) fn size(self) -> usize
-        requires { Sound self }
+    fn size(self) -> usize
         ensures { result ≡ size_of self }
     {
         MARK_SIZE + self.width + self.width
     }
 
-    // Whether two numbers add to more than the cap.
-    pub(crate) fn is_past(self, moved: u64, refused: u64) -> bool
-        ensures { result ≡ is_past self (moved, refused) }
+    // Whether counts add to more than the cap.
+    fn is_past(self, counts: (u64, u64)) -> bool
+        ensures { result ≡ is_past self counts }
     {
-        if moved <= self.cap {
-            self.cap - moved < refused
-        } else {
-            true
-        }
+        let (moved, refused) = counts;
+        moved.checked_add(refused).is_none_or(|sum| self.cap < sum)
     }
 
     // Whether a note begins with the mark.
-    pub(crate) fn has_mark(self, note: &[u8]) -> bool
+    fn has_mark(self, note: &[u8]) -> bool
         requires { length note.now ≡ size_of self }
         ensures { result ≡ has_mark self note.now }
     {
-        note[0] == MARK && note[1] == self.mark
+        note.starts_with(&[MARK, self.mark])
     }
 
-    // The number at a place of a note.
-    pub(crate) fn number_at(self, note: &[u8], at: usize) -> u64
-        requires { Sound self × (at + self.width ≤ length note.now) }
-        ensures { result ≡ number_at self note.now at }
+    // The numbers behind the mark.
+    #[tactic(auto, unfolding(crate::specs::Note::number_at))]
+    fn counts_in(self, note: &[u8]) -> (u64, u64)
+        requires { length note.now ≡ size_of self }
+        ensures { result ≡ counts_in self note.now }
     {
-        get_whole(&note[at..at + self.width])
+        let (moved, refused) = note[MARK_SIZE..].split_at(self.width);
+        (get_whole(moved), get_whole(refused))
     }
 
-    // Fills a piece with the mark and two numbers.
-    pub(crate) fn put(self, note: &mut [u8], moved: u64, refused: u64)
-        requires { Sound self × (length note.old ≡ size_of self) }
-        ensures { note.new ≡ note_of self (moved, refused) }
+    // Fills a note with the mark and counts.
+    #[tactic(auto, unfolding(crate::specs::Note::note_of))]
+    fn put(self, note: &mut [u8], counts: (u64, u64))
+        requires { length note.old ≡ size_of self }
+        ensures { note.new ≡ note_of self counts }
     {
-        note[0] = MARK;
-        note[1] = self.mark;
-        self.put_number(note, MARK_SIZE, moved);
-        self.put_number(note, MARK_SIZE + self.width, refused);
-    }
-
-    // Puts a number at a place of a note.
-    fn put_number(self, note: &mut [u8], at: usize, n: u64)
-        requires { at + self.width ≤ length note.old }
-        ensures { Put note.old at (least_bytes self.width n) (at + self.width) note.new }
-    {
-        put_whole(&mut note[at..at + self.width], n);
+        let (mark, numbers) = note.split_at_mut(MARK_SIZE);
+        let (first, second) = numbers.split_at_mut(self.width);
+        let (moved, refused) = counts;
+        mark.copy_from_slice(&[MARK, self.mark]);
+        put_whole(first, moved);
+        put_whole(second, refused);
     }
 }

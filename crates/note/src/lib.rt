@@ -1,10 +1,8 @@
 // The handover note: a session's two counts in bytes, behind a mark.
 #![tactic(auto)]
 
-mod answer;
 mod form;
 mod notes;
 
-pub use answer::{NoteAnswer, NoteCounts};
 pub use form::{CAP, SIZE};
 pub use notes::{read_note, write_note};

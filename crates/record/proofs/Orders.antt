@@ -9,8 +9,8 @@ use lib.Dec.{T, eqb, eqb→eq}
 use lib.IntN.{ℤ}
 use lib.ListN.{length, get_or}
 use Rattle.whole.proofs.Tests.{conj}
-use Rattle.angle.proofs.Judged.{not-false}
-use Rattle.parallel.specs.Refusal.{Outcome, refused, given, is_given, unless}
+use borrow.Author.Tests.{not-false}
+use Rattle.refusal.specs.Outcome.{Outcome, refused, given, is_given, unless}
 use Rattle.parallel.proofs.Orders.{Applies, Passes, OfNumbers}
 use Rattle.projection.specs.Answer.{forward_order, inverse_order, forward_of, inverse_of}
 use Rattle.record.specs.Record.{size, mark, position, place, has_mark, kind_in, form_in, central_in, first_in, second_in, moved_of}
@@ -65,7 +65,7 @@ pair_numbers P bytes p1 p3 p4 p5 p6 p18 p7 p17 = go (eqb (form_in bytes) positio
 -- two pieces that pass are of a record's length
 pub sizes : (input output : ℕ) → not (both_of_size input output) ≡ false → (input ≡ size) × (output ≡ size)
 sizes input output h =
-    let t = conj (eqb input size) (eqb output size) (not-false (both_of_size input output) h) in
+    let t = conj (eqb input size) (eqb output size) (rw (not-false (both_of_size input output) h) tt) in
     (eqb→eq input size t.0, eqb→eq output size t.1)
 
 -- a record that passes begins with the mark's two bytes
@@ -75,11 +75,7 @@ mark_bytes bytes h =
     (eqb→eq (get_or bytes 0 0) (get_or mark 0 0) t.0, eqb→eq (get_or bytes 1 0) (get_or mark 1 0) t.1)
 
 module _ (input output : List ℕ) {answer : Outcome (ℤ × ℤ)} where
-  -- what the output piece holds after a refusal, and after a conversion
-  pub kept : (n : ℕ) → refused n ≡ answer → output ≡ output_after input output answer
-  unfolding output_after
-  kept n e = rw (sym e)
-
+  -- what the output piece holds after a conversion
   pub written : (pair : ℤ × ℤ) → given pair ≡ answer → moved_of input pair ≡ output_after input output answer
   unfolding output_after
   written pair e = rw (sym e)

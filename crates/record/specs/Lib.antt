@@ -2,3 +2,4 @@ pub mod Record
 pub mod Records
 pub mod Refusal
 pub mod Answer
+pub mod Form

@@ -1,29 +1,31 @@
 // A record converted: judged by its own bytes, and then written.
 ghost use Rattle.std.specs.Prelude.{◌≡◌, length};
-ghost use Rattle.projection.specs.Answer.{meaning};
-ghost use Rattle.record.specs.Record.{size};
+ghost use Rattle.refusal.specs.Number.{meaning};
 ghost use Rattle.record.specs.Answer.{judged_of, convertible, convert_of, output_after};
+ghost use Rattle.record.specs.Form.{converted_as};
 
-use super::layout::{
-    CENTRAL, FIRST, FORM, KIND, PLACE, POSITION, SECOND, SIZE, both_of_size, has_mark, write,
-};
+use super::form::Form;
+use super::layout::{CENTRAL, FIRST, KIND, Record, SECOND, form_of, write};
 use little_endian::get;
-use projection::{Answer, forward, inverse};
+use projection::{forward, inverse};
+use refusal::Refusal;
 
 // Converts the record in `input` into `output`, or answers the first refusal that applies and leaves `output` as it is.
-#[tactic(auto, unfolding(crate::specs::Answer::convert_of, crate::specs::Answer::judged_of, crate::specs::Answer::output_after, parallel::specs::Refusal::unless))]
-pub fn convert_record(input: &[u8], output: &mut [u8]) -> Answer
+#[tactic(auto, unfolding(crate::specs::Answer::convert_of, crate::specs::Answer::output_after, crate::specs::Answer::pair_order, crate::specs::Answer::pair_of, crate::specs::Form::form_of, crate::specs::Form::converted_as, crate::specs::Record::moved_of, projection::specs::Answer::forward_of, projection::specs::Answer::inverse_of, refusal::specs::Outcome::unless))]
+pub fn convert_record(input: &[u8], output: &mut [u8]) -> Result<(i32, i32), Refusal>
     ensures result_value { meaning result ≡ convert_of input.now (length output.old) }
     ensures output_after { output.new ≡ output_after input.now output.old (convert_of input.now (length output.old)) }
 {
-    if !both_of_size(input.len(), output.len()) {
-        return Answer::Refused(8);
-    }
-    let answer = judge(input);
-    if let Answer::Pair(first, second) = answer {
-        write(input, output, first, second);
-    }
-    answer
+    let Some(input) = input.as_array() else {
+        return Err(Refusal::Length);
+    };
+    let Some(output) = output.as_mut_array() else {
+        return Err(Refusal::Length);
+    };
+    let form = form_of(input)?;
+    let pair = converted(input, form)?;
+    write(input, output, form.other(), pair);
+    Ok(pair)
 }
 
 // Whether bytes are a record that the rules convert.
@@ -31,32 +33,28 @@ pub fn convert_record(input: &[u8], output: &mut [u8]) -> Answer
 pub fn converts(bytes: &[u8]) -> bool
     ensures { result ≡ convertible bytes.now }
 {
-    if bytes.len() != SIZE {
-        return false;
-    }
-    match judge(bytes) {
-        Answer::Pair(_, _) => true,
-        Answer::Refused(_) => false,
-    }
+    bytes.as_array().is_some_and(|bytes| judge(bytes).is_ok())
 }
 
 // What a record is answered by its own bytes.
-#[tactic(auto, unfolding(crate::specs::Answer::judged_of, parallel::specs::Refusal::unless))]
-fn judge(input: &[u8]) -> Answer
-    requires { length input.now ≡ size }
-    ensures { meaning result ≡ judged_of input.now }
+#[tactic(auto, unfolding(crate::specs::Answer::judged_of, crate::specs::Answer::pair_order, crate::specs::Answer::pair_of, crate::specs::Form::form_of, crate::specs::Form::converted_as, projection::specs::Answer::forward_of, projection::specs::Answer::inverse_of, refusal::specs::Outcome::unless))]
+fn judge(bytes: &Record) -> Result<(i32, i32), Refusal>
+    ensures { meaning result ≡ judged_of bytes.now }
 {
-    if !has_mark(input) {
-        return Answer::Refused(9);
-    }
-    let kind = input[KIND];
-    let form = input[FORM];
-    let central = get(input, CENTRAL);
-    let first = get(input, FIRST);
-    let second = get(input, SECOND);
+    converted(bytes, form_of(bytes)?)
+}
+
+// What the pair of a record of this form is converted to; or the first refusal of a position or of a place.
+#[tactic(auto, unfolding(crate::specs::Form::converted_as))]
+fn converted(bytes: &Record, form: Form) -> Result<(i32, i32), Refusal>
+    ensures { meaning result ≡ converted_as form bytes.now }
+{
+    let kind = bytes[KIND];
+    let central = get(bytes, CENTRAL);
+    let first = get(bytes, FIRST);
+    let second = get(bytes, SECOND);
     match form {
-        POSITION => forward(kind, central, first, second),
-        PLACE => inverse(kind, central, first, second),
-        _ => Answer::Refused(10),
+        Form::Position => forward(kind, central, first, second),
+        Form::Place => inverse(kind, central, first, second),
     }
 }

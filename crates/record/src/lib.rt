@@ -2,6 +2,7 @@
 #![tactic(auto)]
 
 mod convert;
+mod form;
 mod layout;
 
 pub use convert::{convert_record, converts};

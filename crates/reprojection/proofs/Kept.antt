@@ -1,7 +1,6 @@
 -- What a record with another place keeps, and that the place is read from it again.
-use mathlib.Core.Bool.{Bool, true, false}
 use mathlib.Core.List.{List, [], ◌++◌, append_assoc}
-use mathlib.Core.Path.{◌≡◌, refl, sym, ap, subst, ◌∙◌}
+use mathlib.Core.Path.{◌≡◌, refl, sym, subst, ◌∙◌}
 use Prim.Native.Nat.{ℕ, ◌<◌}
 use native.Mathlib.Omega.{arith}
 use lib.IntN.{ℤ}
@@ -9,13 +8,13 @@ use lib.ListN.{length, get_or, take, length-append}
 use lib.Seq.{length-take-le, take_at}
 use mir.Syntax.{w32}
 use mir.Val.{SFits}
-use Rattle.parallel.specs.Refusal.{Outcome, refused, given}
+use Rattle.refusal.specs.Outcome.{Outcome, refused, given}
 use Rattle.little_endian.specs.Number.{bytes_of, number_at}
 use Rattle.little_endian.proofs.Numbers.{put_get}
 use Rattle.record.specs.Record.{size, central_in, first_in, second_in}
 use Rattle.record.proofs.Stored.{byte_same}
-use Rattle.reprojection.specs.Reprojected.{is_taken, place_in, with_place, reprojected}
-use Rattle.reprojection.proofs.Places.{stays, taken, taken_size}
+use Rattle.reprojection.specs.Reprojected.{place_in, with_place, reprojected}
+use Rattle.reprojection.proofs.Places.{taken_size}
 
 pub central_same : (s r : List ℕ) → length r ≡ length s → take 8 r ≡ take 8 s → central_in r ≡ central_in s
 unfolding number_at
@@ -50,8 +49,5 @@ with_front s (given p) h = front_same s p.0 p.1 h
 with_front s (refused n) h = refl
 
 pub front_kept : (s : List ℕ) → take 8 (reprojected s) ≡ take 8 s
-front_kept s = go (is_taken s) refl
-  where
-    go : (b : Bool) → is_taken s ≡ b → take 8 (reprojected s) ≡ take 8 s
-    go true e = ap (take 8) (sym (taken s e)) ∙ with_front s (place_in s) (taken_size s e)
-    go false e = ap (take 8) (sym (stays s e))
+unfolding reprojected
+front_kept s = grind (arith, with_front s (place_in s), taken_size s)

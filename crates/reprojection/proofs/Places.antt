@@ -1,5 +1,5 @@
 -- What becomes of a record: when it is left alone, what is put into it, and that it keeps its length.
-use mathlib.Core.Bool.{Bool, true, false, cond, ◌&&◌, and-eq-true_iff}
+use mathlib.Core.Bool.{true, false, ◌&&◌, and-eq-true_iff}
 use mathlib.Core.List.{List, ◌++◌, append-nil, append_assoc}
 use mathlib.Core.Path.{◌≡◌, refl, sym, ap, ◌∙◌}
 use Prim.Native.Nat.{ℕ, ◌+◌}
@@ -10,7 +10,8 @@ use lib.IntN.{ℤ}
 use lib.ListN.{length, take, drop, take-append-drop, length-append, length-drop, drop_of_length-le}
 use lib.Seq.{length-take-le}
 use Rattle.parallel.specs.Table.{rows, row_of}
-use Rattle.parallel.specs.Refusal.{Outcome, refused, given, unless, is_kind}
+use Rattle.refusal.specs.Outcome.{Outcome, refused, given, unless}
+use Rattle.parallel.specs.Refusal.{is_kind}
 use Rattle.projection.specs.Answer.{forward_of, inverse_of}
 use Rattle.little_endian.specs.Number.{bytes_of, with_number}
 use Rattle.little_endian.proofs.Numbers.{put_behind}
@@ -101,8 +102,4 @@ with_place_long s (refused n) h = refl
 
 pub reprojected_long : (s : List ℕ) → length (reprojected s) ≡ length s
 unfolding reprojected
-reprojected_long s = go (is_taken s) refl
-  where
-    go : (b : Bool) → is_taken s ≡ b → length (cond b (with_place s (place_in s)) s) ≡ length s
-    go true e = with_place_long s (place_in s) (taken_size s e)
-    go false e = refl
+reprojected_long s = grind (arith, with_place_long s (place_in s), taken_size s)

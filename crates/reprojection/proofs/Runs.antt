@@ -2,8 +2,7 @@
 use mathlib.Core.List.{List, ◌++◌, append-nil, append_assoc}
 use mathlib.Core.Path.{◌≡◌, refl, sym, ap, ◌∙◌}
 use Prim.Native.Nat.{ℕ, zero, suc, ◌+◌, ◌-◌, ◌*◌, ◌≤◌, ◌<◌}
-use native.Mathlib.Decide.{dec_le}
-use native.Mathlib.Nat.{le_refl, lt_of_not-le, add-zero, add-suc}
+use native.Mathlib.Nat.{le_refl, add-zero, add-suc}
 use native.Mathlib.Numerals.{add-one}
 use native.Mathlib.Omega.{arith}
 use lib.ListN.{length, take, drop, take-append-drop, length-append, length-drop, drop_of_length-le}
@@ -69,12 +68,7 @@ unfolding first_reprojected
 record_done s zero i rest h k = absurd (omega arith)
 record_done s (suc count) i rest h k =
     ap (λ (l : List ℕ). record_at l i) (append_assoc (first_reprojected s count) (reprojected (record_at s count)) rest)
-    ∙ go (dec_le (suc i) count) (λ d. record_done s count i (reprojected (record_at s count) ++ rest) d (omega arith))
-  where
-    go : Dec (suc i ≤ count) → (i < count → record_at (first_reprojected s count ++ (reprojected (record_at s count) ++ rest)) i ≡ reprojected (record_at s i)) →
-        record_at (first_reprojected s count ++ (reprojected (record_at s count) ++ rest)) i ≡ reprojected (record_at s i)
-    go (yes d) before = before d
-    go (no d) before = let e : i ≡ count = omega (arith, lt_of_not-le d) in last s count i rest e (omega arith)
+    ∙ grind (arith, record_done s count i (reprojected (record_at s count) ++ rest), last s count i rest)
 
 -- ---- bytes that come behind others
 

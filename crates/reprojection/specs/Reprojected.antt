@@ -1,7 +1,7 @@
 -- What becomes of a record: a place of kind 3 or 4 is sent back under the row that its kind had and forward under the one that it
 -- has; every other record, and a place that the old row refuses, stays as it is.
 use Rattle.std.specs.Prelude.{Bool, cond, ◌&&◌, List, ◌++◌, ℕ, ℤ, take}
-use Rattle.parallel.specs.Refusal.{Outcome, refused, given, and_then}
+use Rattle.refusal.specs.Outcome.{Outcome, refused, given, and_then}
 use Rattle.projection.specs.Answer.{forward_of}
 use Rattle.little_endian.specs.Number.{bytes_of}
 use Rattle.record.specs.Record.{holds_place, kind_in, central_in, first_in, second_in}

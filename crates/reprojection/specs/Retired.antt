@@ -3,7 +3,7 @@ use Rattle.std.specs.Prelude.{Bool, ◌||◌, List, [], ◌∷◌, ℕ, ◌-◌,
 use Rattle.parallel.specs.declared.table.Row.{Row}
 use Rattle.parallel.specs.declared.table.Method.TheVariants.{Root}
 use Rattle.parallel.specs.Table.{row, neg, no_row}
-use Rattle.parallel.specs.Refusal.{Refusal, Outcome, unless}
+use Rattle.refusal.specs.Outcome.{Rule, Outcome, unless}
 use Rattle.projection.specs.Inverse.{position_of}
 use Rattle.projection.specs.Refusal.{bad_central}
 use Rattle.projection.specs.Answer.{row_order}
@@ -24,7 +24,7 @@ unfoldable pub retired_row : ℕ → Row
 retired_row kind = get_or retired (kind - 3) no_row
 
 -- a place sent back under a row: refused by 3, 6, 18, 7 or 17, or its position
-abbrev pub back_order : Row → ℤ → ℤ → ℤ → List Refusal
+abbrev pub back_order : Row → ℤ → ℤ → ℤ → List Rule
 back_order r central x y = bad_central central ∷ row_order r x y
 
 unfoldable pub back_under : Row → ℤ → ℤ → ℤ → Outcome (ℤ × ℤ)

@@ -1,20 +1,16 @@
 -- A session stays within the cap whatever it is fed and restored from, so that it has a note, and the note gives it back.
-use mathlib.Core.Bool.{Bool, true, false, not, cond}
 use mathlib.Core.List.{List, [], ◌∷◌, ◌++◌}
-use mathlib.Core.Path.{◌≡◌, refl, sym, ap, subst, ◌∙◌}
+use mathlib.Core.Path.{◌≡◌, sym, ap, subst, ◌∙◌}
 use Prim.Native.Nat.{ℕ, ◌+◌, ◌≤◌}
 use native.Mathlib.Omega.{arith}
-use borrow.Author.Tests.{leb-false}
 use lib.IntN.{ℤ}
-use lib.ListN.{length}
-use Rattle.parallel.specs.Refusal.{Outcome, refused, given, or_else, on_given, unless}
+use Rattle.refusal.specs.Outcome.{Outcome, refused, given, or_else, on_given, unless}
 use Rattle.parallel.proofs.Orders.{on_unless, all_pass}
-use Rattle.record.specs.Refusal.{both_of_size}
 use Rattle.note.specs.Note.{cap, narrow, size_of, note_of, counts_in}
-use Rattle.note.specs.Answer.{read_order, read_as, read_of}
-use Rattle.note.proofs.Stored.{narrow_sound, is_written, is_read, read_within}
+use Rattle.note.specs.Answer.{read_order, read_as}
+use Rattle.note.proofs.Stored.{is_written, is_read, read_within}
 use Rattle.session.specs.declared.Session.{Session}
-use Rattle.session.specs.Session.{is_full, feed_of, is_counted, one_refused, session_after}
+use Rattle.session.specs.Session.{feed_of, session_after}
 use Rattle.session.specs.Handover.{with_counts, save_of, restore_of}
 use Rattle.session.specs.History.{Event, fed, saved, restored, session_by, session_of, Reachable}
 use Rattle.session.proofs.Orders.{fed_8, fed_11}
@@ -27,33 +23,17 @@ sum_of session = session.moved + session.refused
 at_most_one : (session : Session) (answer : Outcome (ℤ × ℤ)) → sum_of (session_after session answer) ≤ sum_of session + 1
 unfolding session_after
 at_most_one session (given pair) = omega arith
-at_most_one session (refused n) = go (is_counted n)
-  where
-    go : (b : Bool) → sum_of (cond b (one_refused session) session) ≤ sum_of session + 1
-    go true = omega arith
-    go false = omega arith
+at_most_one session (refused n) = grind arith
 
 -- a call that adds to a count finds the session not full
 fed_within : (session : Session) (input : List ℕ) (output : ℕ) → sum_of session ≤ cap →
     sum_of (session_after session (feed_of session input output)) ≤ cap
 unfolding session_after
-fed_within session input output h = go (both_of_size (length input) output) (is_full session) refl refl
-  where
-    go : (b f : Bool) → both_of_size (length input) output ≡ b → is_full session ≡ f →
-        sum_of (session_after session (feed_of session input output)) ≤ cap
-    go false f e g = rw (← fed_8 session input output (ap not e)) h
-    go true true e g = rw (← fed_11 session input output (ap not e) g) h
-    go true false e g =
-        let l = leb-false cap (sum_of session) g in
-        let m = at_most_one session (feed_of session input output) in
-        omega arith
+fed_within session input output h =
+    grind (arith, at_most_one session (feed_of session input output), fed_8 session input output, fed_11 session input output)
 
 restored_within : (session : Session) (note : List ℕ) → sum_of session ≤ cap → sum_of (or_else session (restore_of note)) ≤ cap
-restored_within session note h = go (read_of note) refl
-  where
-    go : (o : Outcome (ℕ × ℕ)) → read_of note ≡ o → sum_of (or_else session (on_given with_counts o)) ≤ cap
-    go (given counts) e = read_within narrow note counts e
-    go (refused n) e = h
+restored_within session note h = grind (arith, read_within narrow note)
 
 pub within : (events : List Event) → sum_of (session_of events) ≤ cap
 unfolding session_of
@@ -69,10 +49,10 @@ module _ (session : Session) (h : sum_of session ≤ cap) where
   counts = (session.moved, session.refused)
 
   pub is_saved : save_of session (size_of narrow) ≡ given (note_of narrow counts)
-  is_saved = is_written narrow counts narrow_sound h
+  is_saved = is_written narrow counts h
 
   pub is_restored : restore_of (note_of narrow counts) ≡ given session
-  is_restored = ap (on_given with_counts) (is_read narrow counts narrow_sound h)
+  is_restored = ap (on_given with_counts) (is_read narrow counts h)
 
   -- a note that it was saved as is that one
   pub gives_back : (note : List ℕ) → save_of session (size_of narrow) ≡ given note → restore_of note ≡ given session

@@ -1,19 +1,12 @@
 -- A session that went through a history has its counts, and answers each call as the history says.
-use mathlib.Core.Bool.{Bool, true, false, not, cond}
 use mathlib.Core.List.{List, [], ◌∷◌}
-use mathlib.Core.Path.{◌≡◌, refl, sym, ap, ◌∙◌}
-use Prim.Native.Nat.{◌+◌}
+use mathlib.Core.Path.{◌≡◌, refl}
 use native.Mathlib.Omega.{arith}
-use lib.Dec.{leb}
 use lib.IntN.{ℤ}
-use lib.ListN.{length}
-use Rattle.parallel.specs.Refusal.{Outcome, refused, given, or_else}
-use Rattle.record.specs.Refusal.{both_of_size}
-use Rattle.record.specs.Answer.{convert_of}
+use Rattle.refusal.specs.Outcome.{Outcome, refused, given, or_else}
 use Rattle.record.proofs.Orders.{converted_8}
-use Rattle.note.specs.Note.{cap}
 use Rattle.session.specs.declared.Session.{Session}
-use Rattle.session.specs.Session.{feed_of, is_counted, one_refused, session_after}
+use Rattle.session.specs.Session.{feed_of, session_after}
 use Rattle.session.specs.Handover.{restore_of}
 use Rattle.session.specs.History.{Call, Event, fed, saved, restored, Account, moved_in, refused_in, count, answer_after, with_answer, with_note, account_of, session_of}
 use Rattle.session.proofs.Orders.{fed_8, fed_11, fed as fed-on}
@@ -27,24 +20,15 @@ pub record Agrees (session : Session) (account : Account) : Type 0 where
 pub answers_alike : (session : Session) (account : Account) (call : Call) → Agrees session account →
     feed_of session call.input call.output ≡ answer_after account call
 unfolding answer_after
-answers_alike session account call a = rw (← a.moved, ← a.refused) (go (both_of_size (length call.input) call.output) (leb cap (session.moved + session.refused)) refl refl)
-  where
-    go : (b f : Bool) → both_of_size (length call.input) call.output ≡ b → leb cap (session.moved + session.refused) ≡ f →
-        feed_of session call.input call.output ≡ cond (cond b f false) (refused 11) (convert_of call.input call.output)
-    go false f e g = sym (fed_8 session call.input call.output (ap not e)) ∙ converted_8 call.input call.output (ap not e)
-    go true true e g = sym (fed_11 session call.input call.output (ap not e) g)
-    go true false e g = sym (fed-on session call.input call.output g)
+answers_alike session account call a =
+    grind (arith, fed_8 session call.input call.output, fed_11 session call.input call.output, fed-on session call.input call.output, converted_8 call.input call.output)
 
 -- and agrees with the account that has one answer more
 agrees_after : (session : Session) (account : Account) (answer : Outcome (ℤ × ℤ)) → Agrees session account →
     Agrees (session_after session answer) (with_answer account answer)
 unfolding session_after count
 agrees_after session account (given pair) a = record { moved = omega arith; refused = a.refused }
-agrees_after session account (refused n) a = go (is_counted n) refl
-  where
-    go : (b : Bool) → is_counted n ≡ b → Agrees (cond (is_counted n) (one_refused session) session) (with_answer account (refused n))
-    go true e = rw e (record { moved = a.moved; refused = rw e (omega arith) })
-    go false e = rw e (record { moved = a.moved; refused = rw e a.refused })
+agrees_after session account (refused n) a = grind arith
 
 -- or with the one that begins with a note
 agrees_noted : (session : Session) (account : Account) (note : Outcome Session) → Agrees session account →

@@ -1,4 +1,3 @@
 pub mod Orders
-pub mod Counted
 pub mod Histories
 pub mod Handovers

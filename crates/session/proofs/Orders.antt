@@ -2,7 +2,7 @@
 use mathlib.Core.List.{List}
 use mathlib.Core.Path.{◌≡◌}
 use Prim.Native.Nat.{ℕ}
-use Rattle.parallel.specs.Refusal.{refused, unless}
+use Rattle.refusal.specs.Outcome.{refused, unless}
 use Rattle.parallel.proofs.Orders.{Applies, Passes}
 use Rattle.record.specs.Refusal.{bad_pieces}
 use Rattle.record.specs.Answer.{convert_of}

@@ -1,6 +1,6 @@
 -- A session saved as a note, and restored from one.
 use Rattle.std.specs.Prelude.{List, ℕ}
-use Rattle.parallel.specs.Refusal.{Outcome, on_given}
+use Rattle.refusal.specs.Outcome.{Outcome, on_given}
 use Rattle.note.specs.Answer.{write_of, read_of}
 use Rattle.session.specs.declared.Session.{Session}
 

@@ -1,6 +1,6 @@
 -- A history: the events of one session since it was opened, and what came of them, by the list of the events alone.
 use Rattle.std.specs.Prelude.{Bool, true, false, cond, List, [], ◌∷◌, ◌≡◌, ℕ, suc, ◌+◌, leb, ℤ, length}
-use Rattle.parallel.specs.Refusal.{Outcome, refused, given, or_else}
+use Rattle.refusal.specs.Outcome.{Outcome, refused, given, or_else}
 use Rattle.record.specs.Refusal.{both_of_size}
 use Rattle.record.specs.Answer.{convert_of}
 use Rattle.note.specs.Note.{cap}

@@ -1,6 +1,6 @@
 -- The session: two counts, and what each call adds to them.
 use Rattle.std.specs.Prelude.{Bool, true, false, cond, List, ◌∷◌, ℕ, ◌+◌, T, leb, eqb, ℤ}
-use Rattle.parallel.specs.Refusal.{Refusal, Outcome, refused, given, OfNumber, unless}
+use Rattle.refusal.specs.Outcome.{Rule, Outcome, refused, given, OfNumber, unless}
 use Rattle.record.specs.Refusal.{bad_pieces}
 use Rattle.record.specs.Answer.{record_order, pair_of}
 use Rattle.note.specs.Note.{cap}
@@ -15,10 +15,10 @@ abbrev pub is_full : Session → Bool
 is_full session = leb cap (session.moved + session.refused)
 
 -- 11: session is full
-abbrev pub full : Session → Refusal
+abbrev pub full : Session → Rule
 full session = record { number = 11; applies = is_full session }
 
-abbrev pub feed_order : Session → List ℕ → ℕ → List Refusal
+abbrev pub feed_order : Session → List ℕ → ℕ → List Rule
 feed_order session input output = bad_pieces input output ∷ full session ∷ record_order input
 
 -- what a call is answered: a session, an input piece, and the length of the output piece

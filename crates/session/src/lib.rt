@@ -2,18 +2,16 @@
 #![tactic(auto)]
 
 ghost use Rattle.std.specs.Prelude.{◌≡◌, ◌+◌, ◌<◌, length};
-ghost use Rattle.projection.specs.Answer.{meaning};
+ghost use Rattle.refusal.specs.Number.{meaning};
 ghost use Rattle.note.specs.Note.{cap};
 ghost use Rattle.record.specs.Answer.{output_after};
 ghost use Rattle.session.specs.Session.{opened, is_full, feed_of, session_after, Counts};
 
 use note::CAP;
-use projection::Answer;
 use record::{both_of_size, convert_record};
+use refusal::Refusal;
 
 mod handover;
-
-pub use handover::Restored;
 
 // Two counts, both 0 when opened: records that were converted, and records that were refused by other than 8 and 11.
 #[derive(Clone, Copy)]
@@ -24,10 +22,14 @@ pub struct Session {
 
 // The session after a call, and what the call is answered.
 #[derive(Clone, Copy)]
-pub struct Fed {
+pub struct Answered<T> {
     pub session: Session,
-    pub answer: Answer,
+    pub answer: Result<T, Refusal>,
 }
+
+pub type Fed = Answered<(i32, i32)>;
+
+pub type Restored = Answered<()>;
 
 impl Session {
     pub fn open() -> Session
@@ -41,57 +43,52 @@ impl Session {
 
     // Converts the record in `input` into `output` and counts it, or answers the first refusal that applies and leaves
     // `output` as it is.
-    #[tactic(auto, unfolding(crate::specs::Session::feed_of, crate::specs::Session::session_after, record::specs::Answer::convert_of, record::specs::Answer::output_after, parallel::specs::Refusal::unless))]
     pub fn feed(self, input: &[u8], output: &mut [u8]) -> Fed
         ensures answer_value { meaning result.answer ≡ feed_of self input.now (length output.old) }
         ensures session_value { result.session ≡ session_after self (feed_of self input.now (length output.old)) }
         ensures output_after { output.new ≡ output_after input.now output.old (feed_of self input.now (length output.old)) }
     {
-        if !both_of_size(input.len(), output.len()) {
-            return Fed {
-                session: self,
-                answer: Answer::Refused(8),
-            };
-        }
-        if self.is_full() {
-            return Fed {
-                session: self,
-                answer: Answer::Refused(11),
-            };
-        }
-        let answer = convert_record(input, output);
+        let answer = self.converted(input, output);
         Fed {
-            session: self.with(answer),
+            session: self.after(answer),
             answer,
         }
+    }
+
+    // The answer alone: what is counted finds the session with room.
+    #[tactic(auto, unfolding(crate::specs::Session::feed_of, record::specs::Answer::convert_of, record::specs::Answer::output_after, refusal::specs::Outcome::unless))]
+    fn converted(self, input: &[u8], output: &mut [u8]) -> Result<(i32, i32), Refusal>
+        ensures answer_value { meaning result ≡ feed_of self input.now (length output.old) }
+        ensures has_room { Counts (meaning result) → (self.moved + self.refused < cap) }
+        ensures output_after { output.new ≡ output_after input.now output.old (feed_of self input.now (length output.old)) }
+    {
+        if !both_of_size(input.len(), output.len()) {
+            return Err(Refusal::Length);
+        }
+        if self.is_full() {
+            return Err(Refusal::Full);
+        }
+        convert_record(input, output)
     }
 
     // Full from the cap up.
     fn is_full(self) -> bool
         ensures { result ≡ is_full self }
     {
-        if self.moved < CAP {
-            CAP - self.moved <= self.refused
-        } else {
-            true
-        }
+        CAP <= self.moved.saturating_add(self.refused)
     }
 
-    // The session with one answer more, which is neither 8 nor 11.
+    // The session with one answer more.
     #[tactic(auto, unfolding(crate::specs::Session::session_after))]
-    fn with(self, answer: Answer) -> Session
-        requires { (self.moved + self.refused < cap) × Counts (meaning answer) }
+    fn after(mut self, answer: Result<(i32, i32), Refusal>) -> Session
+        requires { Counts (meaning answer) → (self.moved + self.refused < cap) }
         ensures { result ≡ session_after self (meaning answer) }
     {
         match answer {
-            Answer::Pair(_, _) => Session {
-                moved: self.moved + 1,
-                refused: self.refused,
-            },
-            Answer::Refused(_) => Session {
-                moved: self.moved,
-                refused: self.refused + 1,
-            },
+            Ok(_) => self.moved += 1,
+            Err(Refusal::Length | Refusal::Full) => {}
+            Err(_) => self.refused += 1,
         }
+        self
     }
 }

@@ -1,25 +1,34 @@
 -- Bytes that stand at their places, and which places are those of digits.
 use mathlib.Core.Path.{◌≡◌, refl, ap, ◌∙◌}
-use mathlib.Core.Bool.{Bool, true, false, cond, false≢true}
+use mathlib.Core.Bool.{Bool, true, false, cond, ◌&&◌, false≢true}
 use mathlib.Core.List.{List, [], ◌∷◌}
 use mathlib.Core.Logic.{◌≢◌}
-use Prim.Native.Nat.{ℕ, zero, suc, ◌<◌}
+use Prim.Native.Nat.{ℕ, zero, suc, ◌+◌, ◌<◌}
+use native.Mathlib.Numerals.{add-one}
 use native.Mathlib.Nat.{le_of_suc-le-suc, not-suc-le-zero}
 use native.Mathlib.Omega.{arith}
 use borrow.Author.Tests.{ne_eqb}
 use lib.Dec.{eqb}
-use lib.ListN.{length, get_or, drop}
+use lib.ListN.{length, get_or, drop, drop_of_length-le}
 use lib.Seq.{drop-cons}
+use Rattle.std.specs.List.{list_all, enumerate_from}
 use Rattle.whole.proofs.Tests.{both}
 use Rattle.whole.proofs.Everywhere.{agree_at}
 use Rattle.shape.specs.Shape.{Place, Sign, Digit, Point, Slash, may_stand, shape, stand}
 
--- the byte at a place, and those behind it
-pub at_place : (places : List Place) (bytes : List ℕ) (i : ℕ) → i < length places → i < length bytes →
-    stand (drop i places) (drop i bytes)
-    ≡ cond (may_stand (get_or places i Digit) (get_or bytes i 0)) (stand (drop (suc i) places) (drop (suc i) bytes)) false
+-- the library's conjunction is the one of `stand`
+and_cond : (a b : Bool) → (a && b) ≡ cond a b false
+and_cond true b = refl
+and_cond false b = refl
+
+-- bytes that stand at the places from n on, one by one
+stands_from : (places : List Place) (n : ℕ) (bytes : List ℕ) → n + length bytes ≡ length places →
+    list_all (λ (p : ℕ × ℕ). may_stand (get_or places p.0 Digit) p.1) (enumerate_from n bytes) ≡ stand (drop n places) bytes
 unfolding stand
-at_place places bytes i h k = rw (drop-cons places i Digit h, drop-cons bytes i 0 k)
+stands_from places n [] e = rw (drop_of_length-le places {i = n} (omega arith))
+stands_from places n (byte ∷ bytes) e =
+    rw (drop-cons places n Digit (omega arith), add-one n, stands_from places (suc n) bytes (omega arith))
+    (and_cond (may_stand (get_or places n Digit) byte) (stand (drop (suc n) places) bytes))
 
 -- what stands at places has as many bytes
 pub as_long : (places : List Place) (bytes : List ℕ) → stand places bytes ≡ true → length bytes ≡ length places
@@ -74,6 +83,12 @@ module _ (text : List ℕ) (st : stand shape text ≡ true) where
 
   pub may : (i : ℕ) → i < 22 → may_stand (get_or shape i Digit) (get_or text i 0) ≡ true
   may i h = may_at shape text st i (rw long h)
+
+-- of a text as long as the shape, each byte at its place decides together
+pub stands_each : (text : List ℕ) (all : Bool) → all ≡ list_all (λ (p : ℕ × ℕ). may_stand (get_or shape p.0 Digit) p.1) (enumerate_from 0 text) →
+    length text ≡ 22 → all ≡ stand shape text
+unfolding shape
+stands_each text all e h = e ∙ stands_from shape 0 text (omega arith)
 
 pub not_long : (text : List ℕ) → length text ≢ 22 → stand shape text ≡ false
 not_long text h = go (stand shape text) refl

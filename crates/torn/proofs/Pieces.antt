@@ -1,13 +1,15 @@
 -- The two pieces, part by part: records closed up at the front of the one, runs listed at the front of the other.
 use mathlib.Core.List.{List, [], ◌∷◌, ◌++◌, append_assoc, append-nil}
 use mathlib.Core.Path.{◌≡◌, refl, sym, ap, ◌∙◌}
-use Prim.Native.Nat.{ℕ, ◌+◌, ◌-◌, ◌*◌}
+use Prim.Native.Nat.{ℕ, ◌+◌, ◌-◌, ◌*◌, ◌≤◌, ◌<◌}
 use native.Mathlib.Nat.{add_assoc, add-zero, zero-add}
 use native.Mathlib.Omega.{arith}
 use borrow.Author.Tests.{lt-ltb, le-ltb}
-use lib.ListN.{length, length-append}
+use lib.ListN.{length, take, drop, length-append}
 use Rattle.digits.specs.Put.{Put}
-use Rattle.digits.proofs.Puts.{put_nothing, put_twice}
+use Rattle.digits.proofs.Puts.{put_nothing, put_twice, put_filled, put_long}
+use Rattle.little_endian.specs.Whole.{least_bytes}
+use Rattle.little_endian.proofs.Wholes.{least_length}
 use Rattle.record.specs.Record.{size}
 use Rattle.torn.specs.Parts.{Part, taken, skipped, taken_in, runs_from, closed_up, back_of}
 use Rattle.torn.specs.Pieces.{list_of}
@@ -53,6 +55,35 @@ closed_runs [] from to e = rw (le-ltb from to (omega arith))
 closed_runs (b ∷ bs) from to e =
     let k : to - from ≡ length (b ∷ bs) = omega arith in
     rw (lt-ltb from to (omega arith), k)
+
+-- ---- a run is listed
+
+-- a number's four bytes fill the part that is lent
+put_number : (l part : List ℕ) (at n : ℕ) → at + 4 ≤ length l → part ≡ least_bytes (length (take (at + 4 - at) (drop at l))) n →
+    Put l at (least_bytes 4 n) (at + 4) (take at l ++ (part ++ drop (at + 4 - at) (drop at l)))
+put_number l part at n = put_filled (λ (k : ℕ). least_bytes k n) (λ k. least_length k n) l part at 4
+
+-- the list with a part in the place of four bytes
+abbrev with_part : List ℕ → ℕ → List ℕ → List ℕ
+with_part l at part = take at l ++ (part ++ drop (at + 4 - at) (drop at l))
+
+pub one_run : {list first second : List ℕ} {runs from to : ℕ} → from < to → 8 * runs + 8 ≤ length list →
+    first ≡ least_bytes (length (take (8 * runs + 4 - 8 * runs) (drop (8 * runs) list))) from →
+    second ≡ least_bytes (length (take (8 * runs + 4 + 4 - (8 * runs + 4)) (drop (8 * runs + 4) (with_part list (8 * runs) first)))) (to - from) →
+    Closes list runs from to (runs + 1) (with_part (with_part list (8 * runs) first) (8 * runs + 4) second)
+unfolding list_of
+one_run {list} {first} {second} {runs} {from} {to} l h e f =
+    let p = put_number list first (8 * runs) from (omega arith) e in
+    let q = put_number (with_part list (8 * runs) first) second (8 * runs + 4) (to - from) (omega (arith, put_long p (omega arith))) f in
+    let k = lt-ltb from to l in
+    let n : 8 * (runs + 1) ≡ 8 * runs + 4 + 4 = omega arith in
+    record { counted = rw k; listed = rw (k, n, append-nil (least_bytes 4 (to - from))) (put_twice (omega arith) p q) }
+
+pub no_run : {list : List ℕ} {runs from to : ℕ} → to ≤ from → Closes list runs from to runs list
+unfolding list_of
+no_run {list} {runs} {from} {to} l =
+    let k = le-ltb from to l in
+    record { counted = rw k (sym (add-zero runs)); listed = rw k (put_nothing list (8 * runs)) }
 
 -- ---- the record piece
 

@@ -2,15 +2,16 @@
 use mathlib.Core.Bool.{true, false, cond}
 use mathlib.Core.List.{List, [], ◌∷◌, ◌++◌, append_assoc, append-nil}
 use mathlib.Core.Path.{◌≡◌, refl, sym, ap, ◌∙◌}
-use Prim.Native.Nat.{ℕ, zero, suc, ◌+◌, ◌≤◌, ◌<◌}
+use Prim.Native.Nat.{ℕ, zero, suc, ◌+◌, ◌-◌, ◌≤◌, ◌<◌}
 use native.Mathlib.Nat.{le_refl}
 use native.Mathlib.Numerals.{add-one}
 use native.Mathlib.Omega.{arith}
 use lib.ListN.{length, get_or, take, drop, length-take, length-drop}
-use lib.Seq.{drop-cons, drop-drop, take-add, take-suc, drop-length}
+use lib.Seq.{drop-cons, drop-drop, take-add, take-suc, take_all, drop-length}
+use Rattle.std.specs.Array.{IsFirstChunk}
 use Rattle.record.specs.Record.{size}
 use Rattle.record.specs.Answer.{convertible}
-use Rattle.record.proofs.Orders.{convertible_length}
+use Rattle.record.proofs.Orders.{convertible_length, not_a_record}
 use Rattle.torn.specs.Parts.{Part, taken, skipped, skip, reading, parts_of, bytes_in, back_of}
 
 -- ---- turns enough
@@ -48,6 +49,15 @@ pub parts_skipped : (s : List ℕ) (at : ℕ) → convertible (take size (drop a
 parts_skipped s at e h =
     let c : drop at s ≡ get_or s at 0 ∷ drop (suc at) s = drop-cons s at 0 h in
     rw (add-one at, c, parts_cons (get_or s at 0) (drop (suc at) s), rw c at e)
+
+-- the first 16 bytes of those that are left at a place
+pub found_is : (s : List ℕ) (at : ℕ) {found : List ℕ} → IsFirstChunk (take (length s - at) (drop at s)) found size → found ≡ take size (drop at s)
+found_is s at f = f.same ∙ ap (take size) (take_all (length s - at) (drop at s) (omega (arith, length-drop at s)))
+
+-- fewer bytes are no record
+pub no_record : (s : List ℕ) (at : ℕ) → length (take (length s - at) (drop at s)) < size → convertible (take size (drop at s)) ≡ false
+no_record s at h =
+    sym (not_a_record (take size (drop at s)) (λ e. omega (arith, length-take size (drop at s), length-take (length s - at) (drop at s), length-drop at s)))
 
 -- ---- bytes skipped one after the other
 
@@ -138,3 +148,20 @@ module _ {s : List ℕ} {at : ℕ} {done : List Part} {run : List ℕ} (h : Read
   read_all e =
       let d : drop at s ≡ [] = rw e (drop-length s) in
       h.rest ∙ rw (d, parts_none, close run [] tt) (ap (λ (ps : List Part). done ++ ps) (append-nil (closed run)))
+
+-- k bytes that are left, fewer than a record has, are skipped one by one
+read_left : {s : List ℕ} (at k : ℕ) {done : List Part} {run : List ℕ} → Read s at done run → at + k ≡ length s → k < size →
+    Read s (length s) done (run ++ drop at s)
+read_left {s} at zero {run = run} h e l =
+    let n : at ≡ length s = omega arith in
+    rw (← n, n, drop-length s, append-nil run) (rw n at h)
+read_left {s} at (suc k) {run = run} h e l =
+    let short : length (take (length s - at) (drop at s)) < size = omega (arith, length-take (length s - at) (drop at s), length-drop at s) in
+    let one : at + 1 ≡ suc at = omega arith in
+    let next = read_left (at + 1) k (read_skipped h (no_record s at short) (omega arith)) (omega arith) (omega arith) in
+    rw (drop-cons s at 0 (omega arith), ← append_assoc run (get_or s at 0 ∷ []) (drop (suc at) s), ← one) next
+
+pub read_rest : {s : List ℕ} {at : ℕ} {done : List Part} {run : List ℕ} → Read s at done run → length (take (length s - at) (drop at s)) < size →
+    Read s (length s) done (run ++ drop at s)
+read_rest {s} {at} h l =
+    read_left at (length s - at) h (omega (arith, h.within)) (omega (arith, length-take (length s - at) (drop at s), length-drop at s))

@@ -1,15 +1,13 @@
 -- What a salvage answers, and what the two pieces hold afterwards.
 use Rattle.std.specs.Prelude.{List, [], ◌∷◌, ℕ, length}
-use Rattle.parallel.specs.Refusal.{Refusal, Outcome, refused, given, unless}
+use Rattle.refusal.specs.Outcome.{Rule, Outcome, refused, given, unless}
 use Rattle.digits.specs.Put.{put_front}
 use Rattle.torn.specs.Parts.{taken_of, runs_of, closed_up}
 use Rattle.torn.specs.Pieces.{list_of}
 use Rattle.torn.specs.Refusal.{too_long, bad_rooms}
-use Rattle.torn.specs.declared.Salvaged.{Salvaged}
-use Rattle.torn.specs.declared.Salvaged.TheVariants.{Counts, Refused}
 
 -- the pieces are given by their lengths
-abbrev pub salvage_order : List ℕ → ℕ → ℕ → List Refusal
+abbrev pub salvage_order : List ℕ → ℕ → ℕ → List Rule
 salvage_order input records list = too_long input ∷ bad_rooms input records list ∷ []
 
 -- how many records are taken, and how many runs are skipped
@@ -29,8 +27,3 @@ records_after input piece answer = after piece (closed_up (taken_of input)) answ
 
 unfoldable pub list_after : List ℕ → List ℕ → Outcome (ℕ × ℕ) → List ℕ
 list_after input piece answer = after piece (list_of (runs_of input)) answer
-
--- the code's answer
-abbrev pub meaning : Salvaged → Outcome (ℕ × ℕ)
-meaning (Counts records runs) = given (records, runs)
-meaning (Refused n) = refused n

@@ -1,21 +1,21 @@
 -- `record::layout::write` meets its contract.
-use mathlib.Core.Path.{◌∙◌}
+use borrow.Author.Rules.{rules}
 use mir.Syntax.{w32}
-use mir.Val.{to_z, of_z}
+use mir.Val.{SFits}
 use mir.Facts.{to_z-of_z}
-use Rattle.record.specs.Record.{record_of, kind_in, moved_of}
-use Rattle.record.proofs.Orders.{at_numbers}
+use Rattle.record.specs.Record.{kind_in, central_in}
+use Rattle.record.specs.Form.{code_of}
 use Rattle.record.proofs.Stored.{stored}
 use Rattle.record.proofs.layout.write.Goals as goal
 
 pub returns : goal.returns
-unfolding moved_of
 returns c =
     let s = c.args in
-    stored s.output.now c.put.new.bytes c.put-2.new.bytes c.put-3.new.bytes (kind_in s.input.now) c.other_form.result
-    (to_z w32 (of_z w32 c.get.result)) (to_z w32 (of_z w32 s.first)) (to_z w32 (of_z w32 s.second))
-    c.requires.1 c.put.ensures.bytes_after c.put-2.ensures.bytes_after c.put-3.ensures.bytes_after
-    ∙ at_numbers (record_of (kind_in s.input.now)) c.other_form.ensures
-    (to_z-of_z {w = w32} (record { sfits = c.get.type_inv }) ∙ c.get.ensures)
-    (to_z-of_z c.ranges.first)
-    (to_z-of_z c.ranges.second)
+    let fc : SFits w32 c.get.result = record { sfits = c.get.type_inv } in
+    let ff : SFits w32 s.pair.0 = search rules in
+    let fs : SFits w32 s.pair.1 = search rules in
+    stored s.output.now c.put.new.bytes c.put-2.new.bytes c.put-3.new.bytes
+    (kind_in s.input.now) (code_of s.form) (central_in s.input.now) s.pair.0 s.pair.1 (search rules)
+    (rw (c.from.ensures, to_z-of_z fc, c.get.ensures) at c.put.ensures.bytes_after)
+    (rw (to_z-of_z ff) at c.put-2.ensures.bytes_after)
+    (rw (to_z-of_z fs) at c.put-3.ensures.bytes_after)

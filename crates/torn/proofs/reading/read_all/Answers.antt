@@ -1,37 +1,25 @@
 -- `torn::reading::read_all` meets its contract: a turn takes a record or skips a byte, and what is left at the end is listed.
-use mathlib.Core.Bool.{true}
-use mathlib.Core.Path.{◌≡◌, sym, ap, ◌∙◌}
-use mathlib.Core.List.{List}
-use Prim.Native.Nat.{ℕ, ◌+◌, ◌-◌, ◌≤◌}
-use native.Mathlib.Omega.{arith}
-use lib.ListN.{length, take, drop}
-use Rattle.record.specs.Record.{size}
-use Rattle.record.specs.Answer.{convertible}
-use Rattle.torn.proofs.Readings.{read_taken}
-use Rattle.torn.proofs.Turns.{begin, take_turn, skip_turn, end}
+use Rattle.std.proofs.Common.{rules}
+use Rattle.torn.proofs.Turns.{begin, record_room_lem, close_room, take_turn, skip_turn, rest_turn, end}
 use Rattle.torn.proofs.reading.read_all.Goals as goal
 
-pub loop-at-init : goal.loop-at-init
-loop-at-init c = begin c.requires
+pub loop-found-init : goal.loop-found-init
+loop-found-init c = search (rules, begin)
 
--- where a record is taken, its bytes are within the input
-pub slice_bounds-put_record-end : goal.slice_bounds-put_record-end
-slice_bounds-put_record-end c =
-    let e : convertible (take size (drop c.loop-at.at c.args.input.now)) ≡ true = sym c.stands_at.ensures ∙ c.if-stands_at.true in
-    let w : c.loop-at.at + size ≤ length c.args.input.now = (read_taken c.loop-at.invariant.read e).within in
-    omega arith
+pub close-requires : goal.close-requires
+close-requires c = search (rules, close_room)
 
--- the record's bytes, as the code has them
-piece_is : (s : List ℕ) (at : ℕ) → take (at + size - at) (drop at s) ≡ take size (drop at s)
-piece_is s at = let e : at + size - at ≡ size = omega arith in ap (λ (n : ℕ). take n (drop at s)) e
+pub put-requires : goal.put-requires
+put-requires c = record_room_lem c.loop-found.invariant.state c.in-Some.ensures.cases
 
-pub loop-at-preserved-then-stands_at : goal.loop-at-preserved-then-stands_at
-loop-at-preserved-then-stands_at c =
-    take_turn c.loop-at.invariant (sym c.stands_at.ensures ∙ c.if-stands_at.true) c.close_run-runs.ensures
-    (rw (piece_is c.args.input.now c.loop-at.at) at c.put_record.ensures)
+pub loop-found-preserved-then-converts : goal.loop-found-preserved-then-converts
+loop-found-preserved-then-converts c = search (rules, take_turn)
 
-pub loop-at-preserved : goal.loop-at-preserved
-loop-at-preserved c = skip_turn c.loop-at.invariant (sym c.stands_at.ensures ∙ c.if-stands_at.false) c.loop-at-test.true
+pub loop-found-preserved : goal.loop-found-preserved
+loop-found-preserved c = search (rules, skip_turn)
+
+pub close-requires-2 : goal.close-requires-2
+close-requires-2 c = search (rules, close_room, rest_turn)
 
 pub returns : goal.returns
-returns c = end c.loop-at.invariant c.loop-at-test.false c.close_run-runs-2.ensures
+returns c = end (rest_turn c.loop-found.invariant.state c.in_default.ensures.cases) c.close-2.ensures.closes (search rules) (search rules)
