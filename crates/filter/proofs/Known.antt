@@ -1,45 +1,20 @@
--- Known bytes that grow by one part after another, and that are taken one part after another.
-use Rattle.std.proofs.Common.{◌≡◌, ℕ, List, [], ◌++◌, ◌+◌, ◌-◌, take, drop, length, refl, sym, ap, ◌∙◌, append_assoc, append-nil, take_all, arith}
+-- Known bytes that grow by one part after another.
+use Rattle.std.proofs.Common.{◌≡◌, ℕ, ◌+◌, ◌-◌, ◌≤◌, List, ◌++◌, Option, length, take, drop, sym, ap, ◌∙◌, arith, length-drop}
+use Rattle.std.proofs.lemmas.List.{take_rest, drop-drop}
 use Rattle.std.proofs.Math.Seq.{take-add}
-use Rattle.std.proofs.Math.ListN.{length-drop}
-use Rattle.std.specs.declared.option.Option.{Option}
-use Rattle.std.specs.declared.option.Option.TheVariants.{None, Some}
-use Rattle.std.specs.Io.KnownBytes.{Keeps, Appends, Consumes}
+use Rattle.std.proofs.KnownBytes.{Appends-trans}
+use Rattle.std.specs.Io.KnownBytes.{Appends}
 
-pub appends_none : (known : Option (List ℕ)) → Appends known known []
-appends_none None = tt
-appends_none (Some xs) = sym (append-nil xs)
-
-pub appends_more : (a b c : Option (List ℕ)) (xs ys : List ℕ) → Appends a b xs → Appends b c ys → Appends a c (xs ++ ys)
-appends_more None b c xs ys p q = tt
-appends_more (Some a) None c xs ys p q = absurd p
-appends_more (Some a) (Some b) None xs ys p q = absurd q
-appends_more (Some a) (Some b) (Some c) xs ys p q = q ∙ ap (λ l. l ++ ys) p ∙ append_assoc a xs ys
-
-pub kept_appends : (a b c : Option (List ℕ)) (xs : List ℕ) → Appends a b xs → Keeps b c → Appends a c xs
-kept_appends None b c xs p q = tt
-kept_appends (Some a) None c xs p q = absurd p
-kept_appends (Some a) (Some b) None xs p q = absurd q
-kept_appends (Some a) (Some b) (Some c) xs p q = q ∙ p
-
--- the first bytes, and then the first of those that were offered
-pub appends_front : (a b c : Option (List ℕ)) (bytes : List ℕ) (done n : ℕ) → Appends a b (take done bytes) →
-    Appends b c (take n (take (length bytes - done) (drop done bytes))) → Appends a c (take (done + n) bytes)
-appends_front a b c bytes done n p q =
-    let all : take (length bytes - done) (drop done bytes) ≡ drop done bytes = take_all (length bytes - done) (drop done bytes) (omega (arith, length-drop done bytes)) in
-    rw (take-add done n bytes) (appends_more a b c (take done bytes) (take n (drop done bytes)) p (rw all at q))
-
-pub consumes_none : (known : Option (List ℕ)) → Consumes known known []
-consumes_none None = tt
-consumes_none (Some xs) = refl
-
-pub keeps_consumes : (a b : Option (List ℕ)) → Keeps a b → Consumes a b []
-keeps_consumes None b p = tt
-keeps_consumes (Some a) None p = absurd p
-keeps_consumes (Some a) (Some b) p = sym p
-
-pub consumes_more : (a b c : Option (List ℕ)) (xs ys : List ℕ) → Consumes a b xs → Consumes b c ys → Consumes a c (xs ++ ys)
-consumes_more None b c xs ys p q = tt
-consumes_more (Some a) None c xs ys p q = absurd p
-consumes_more (Some a) (Some b) None xs ys p q = absurd q
-consumes_more (Some a) (Some b) (Some c) xs ys p q = p ∙ ap (λ l. xs ++ l) q ∙ sym (append_assoc xs ys c)
+-- the front of some bytes is written, and then some of the rest
+pub front_grows : (a b c : Option (List ℕ)) (bytes rest : List ℕ) (n : ℕ) → n ≤ length rest → length rest ≤ length bytes →
+    rest ≡ drop (length bytes - length rest) bytes → Appends a b (take (length bytes - length rest) bytes) → Appends b c (take n rest) →
+    let rest' = take (length rest - n) (drop n rest) in
+    (length rest' ≤ length bytes) × (rest' ≡ drop (length bytes - length rest') bytes) × Appends a c (take (length bytes - length rest') bytes)
+front_grows a b c bytes rest n le within is p q =
+    let k : ℕ = length bytes - length rest in
+    let same : take (length rest - n) (drop n rest) ≡ drop n rest = take_rest rest n in
+    let long : length (drop n rest) ≡ length rest - n = length-drop n rest in
+    let next : length bytes - length (drop n rest) ≡ k + n = omega arith in
+    let dropped : drop n rest ≡ drop (k + n) bytes = ap (drop n) is ∙ drop-drop n k bytes in
+    let taken : take k bytes ++ take n rest ≡ take (k + n) bytes = ap (λ l. take k bytes ++ take n l) is ∙ sym (take-add k n bytes) in
+    rw (same, next) (omega arith, dropped, rw taken at (Appends-trans a b c (take k bytes) (take n rest) p q))

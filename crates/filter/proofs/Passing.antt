@@ -14,7 +14,7 @@ use Rattle.stream.specs.declared.state.Phase.TheVariants.{Reading, Ended, NotSta
 use Rattle.stream.specs.Run.{Standing, Read, came, ended, interrupted, failed, bytes_in, Turn, offered, turned, go_on, after_read, after_write, phase_at_start, start, standing_of, input_of, written_of, Wrote}
 use Rattle.stream.proofs.Runs.{runs_write}
 use Rattle.filter.specs.Moves.{IsPart, Moves, last_offered, last_written, Passes, EndedRunsPass}
-use Rattle.filter.proofs.Known.{appends_none, appends_more, consumes_none, consumes_more}
+use Rattle.std.proofs.KnownBytes.{Appends-nil, Appends-trans, Consumes-nil, Consumes-trans}
 use Rattle.filter.proofs.Turns.{goes_on_to}
 
 -- before the first turn
@@ -32,11 +32,11 @@ passes_none job arguments s left held e = (
   record {
     turns = [];
     stands = e;
-    took = consumes_none left;
+    took = Consumes-nil left;
     all = λ p. absurd (start_no_end arguments (ap (λ (x : Standing). x.phase) (sym e) ∙ p));
     part = [];
     is_part = refl;
-    wrote = appends_none held;
+    wrote = Appends-nil held;
   },
   refl,
 )
@@ -83,12 +83,12 @@ module _ (job : Job) (arguments : ℕ) (turn : Turn) where
         record {
           turns = turn ∷ p.turns;
           stands = goes_on_to job s before s' turn e p.stands reading;
-          took = rw phase (consumes_more left left' left'' input (bytes_in turn.read) p.took m.took);
+          took = rw phase (Consumes-trans left left' left'' input (bytes_in turn.read) p.took m.took);
           all = λ q. m.all (ended_read job s turn reading (ap (λ (x : Standing). x.phase) (sym e) ∙ q));
           part = m.part;
           is_part = rw phase (subst (λ (o : List ℕ). IsPart turn.written o m.part) offer m.is_part);
           wrote = rw phase (subst (Appends held held'') (sym (append_assoc written more m.part))
-              (appends_more held held' held'' written (more ++ m.part) earlier wrote));
+              (Appends-trans held held' held'' written (more ++ m.part) earlier wrote));
         },
         λ q. reading_whole turn.written (after_read job s turn.read) (offered job s turn.read) m.part (ap (λ (x : Standing). x.phase) (sym e) ∙ q) m.is_part,
       )

@@ -1,11 +1,15 @@
 -- What a run says always fits the text.
-use mathlib.Core.Bool.{true}
+use mathlib.Core.Bool.{Bool, true}
 use mathlib.Core.List.{List}
-use mathlib.Core.Path.{◌≡◌, refl, subst}
+use mathlib.Core.Path.{◌≡◌, refl, sym, subst}
 use Prim.Native.Nat.{ℕ, ◌*◌}
 use native.Mathlib.Omega.{arith}
 use borrow.Author.Tests.{le-leb, leb-true}
-use lib.ListN.{length}
+use lib.ListN.{length, take}
+use lib.Seq.{length-take-le}
+use Rattle.std.specs.Prelude.{Option, Some}
+use Rattle.lines.specs.Buffer.{Placed}
+use Rattle.lines.proofs.Buffers.{counted_le}
 use Rattle.torn.specs.Pieces.{most as longest}
 use Rattle.lines.specs.Line.{line_room}
 use Rattle.listing.specs.Listing.{listing_room}
@@ -43,3 +47,7 @@ module _ (job : Job) (arguments : ℕ) (turns : List Turn) (text : ℕ) (l : tex
   pub said_fits : (s : Standing) → s ≡ standing_of job arguments turns → message_fits job s.phase s.rest text ≡ true
   said_fits s e =
       rw (e, le-leb message_room text (omega (arith, l))) (at_phase (standing_of job arguments turns).phase refl)
+
+-- what is said stands in the text
+pub said_there : (fits : Bool) {said l l' : List ℕ} {answer : Option ℕ} {n : ℕ} → Placed fits said l answer l' → answer ≡ Some n → n ≡ length (take n l')
+said_there fits {l' = l'} {n = n} p e = sym (length-take-le n l' (counted_le fits p e))

@@ -2,13 +2,14 @@
 use mathlib.Core.Path.{◌≡◌, refl, sym, ap, ◌∙◌}
 use mathlib.Core.Bool.{Bool, true, false, cond}
 use mathlib.Core.List.{List, ◌++◌}
-use Prim.Native.Nat.{ℕ, ◌+◌, ◌-◌, ◌*◌, ◌/◌, ◌≤◌, ◌<◌}
+use Prim.Native.Nat.{ℕ, ◌+◌, ◌*◌, ◌/◌, ◌≤◌}
 use native.Mathlib.Omega.{arith}
-use borrow.Author.Tests.{le-leb, leb-true}
+use borrow.Author.Tests.{le-leb, leb-true, eqb-true}
 use lib.Dec.{eqb}
 use lib.IntN.{ℤ, pos, negsuc}
 use lib.ListN.{length, take, drop, length-append, length-take}
 use lib.Seq.{length-take-le, take_at}
+use Rattle.std.specs.Prelude.{Result, Ok, Err, IfOk, is_ok}
 use Rattle.record.specs.Record.{size}
 use Rattle.digits.specs.Put.{put_at, put_front, Put}
 use Rattle.digits.proofs.Puts.{put_front_lem}
@@ -20,36 +21,39 @@ use Rattle.report.proofs.Blocks.{lines_do_fit}
 use Rattle.jobs.specs.declared.Job.{Job}
 use Rattle.jobs.specs.declared.Job.TheVariants.{Convert, Reproject, Salvage}
 use Rattle.jobs.specs.Job.{worked_in, waiting_in, takes_in, lines_room, room_for}
-use Rattle.stream.specs.declared.state.Phase.{Phase}
-use Rattle.stream.specs.declared.state.Phase.TheVariants.{Reading, Ended, NotStarted, NotRead, NotWritten, TooLong}
+use Rattle.stream.specs.declared.state.Phase.TheVariants.{Reading, TooLong}
 use Rattle.stream.specs.declared.state.State.{State}
 use Rattle.stream.specs.declared.state.Got.{Got}
 use Rattle.stream.specs.declared.state.Got.TheVariants.{Bytes, End, Interrupted, Failed}
 use Rattle.stream.specs.declared.step.Step.{Step}
 use Rattle.stream.specs.Run.{Standing, Read, came, ended, interrupted, failed, bytes_in, Turn, offered, turned, go_on, after_read, after_write}
-use Rattle.stream.specs.Step.{eintr, got_of, got_by_error, bytes_of, with_room, read_in, standing, held_after, write_after, Follows, FollowsBy}
+use Rattle.stream.specs.Step.{eintr, came_to, got_by_error, bytes_of, with_room, read_in, standing, held_after, write_after, Follows, FollowsBy}
 use Rattle.stream.proofs.Steps.{write_stands, write_held, write_next, next_after, held_after_lem}
-use Rattle.filter.specs.Calls.{Moved}
-use Rattle.filter.specs.Turns.{records, most, held_most, Room, TurnsBy, left_in}
+use Rattle.filter.specs.Turns.{records, most, held_most, Room, TurnsBy}
 
 -- ---- the room of a read
 
--- as many bytes as were asked for, at most
-few_came : (answer error : ℤ) → Moved most answer → bytes_of (got_of answer error) ≤ most
-few_came (pos n) error m = go (eqb n 0)
-  where
-    go : (b : Bool) → bytes_of (cond b End (Bytes n)) ≤ most
-    go true = omega arith
-    go false = m
-few_came (negsuc n) error m = by_error error
-  where
-    choice : (b : Bool) → bytes_of (cond b Interrupted Failed) ≤ most
-    choice true = omega arith
-    choice false = omega arith
+-- what holds of each case holds of what a read came to: an error is an interruption or a failure, and only no bytes are the end
+module _ (P : Got → Type 0) where
+  pub by_error : P Interrupted → P Failed → (error : ℤ) → P (got_by_error error)
+  by_error i f (pos n) = go (eqb n eintr)
+    where
+      go : (b : Bool) → P (cond b Interrupted Failed)
+      go true = i
+      go false = f
+  by_error i f (negsuc n) = f
 
-    by_error : (error : ℤ) → bytes_of (got_by_error error) ≤ most
-    by_error (pos k) = choice (eqb k eintr)
-    by_error (negsuc k) = omega arith
+  pub by_count : (n : ℕ) → (n ≡ 0 → P End) → P (Bytes n) → P (came_to (Ok n))
+  by_count n e b = go (eqb n 0) refl
+    where
+      go : (none : Bool) → eqb n 0 ≡ none → P (cond none End (Bytes n))
+      go true q = e (eqb-true n 0 q)
+      go false q = b
+
+-- as many bytes as were asked for, at most
+pub few_came : (answer : Result ℕ ℤ) → IfOk answer (λ n. n ≤ most) → bytes_of (came_to answer) ≤ most
+few_came (Ok n) m = by_count (λ (g : Got). bytes_of g ≤ most) n (λ z. omega arith) m
+few_came (Err error) m = by_error (λ (g : Got). bytes_of g ≤ most) (omega arith) (omega arith) error
 
 -- a job holds no more over than the longest torn file
 pub held_few : (job : Job) → held_most job ≤ longest
@@ -69,12 +73,10 @@ room_for_lem Convert next held count text h k i t = lines_room_lem next held cou
 room_for_lem Reproject next held count text h k i t = lines_room_lem next held count text h k i t
 room_for_lem Salvage next held count text h k i t = le-leb (held + count) text (omega arith)
 
-pub with_room_lem : (job : Job) (answer error : ℤ) (state : State) (buffer text : ℕ) → Moved most answer → state.held ≤ held_most job →
-    state.next + records ≤ most_number → buffer ≡ longest + most → text ≡ line_room * records →
-    with_room job (got_of answer error) state buffer text ≡ got_of answer error
-with_room_lem job answer error state buffer text m h i b t =
-    let count : ℕ = bytes_of (got_of answer error) in
-    let k = few_came answer error m in
+pub with_room_lem : (job : Job) (got : Got) (state : State) (buffer text : ℕ) → bytes_of got ≤ most → state.held ≤ held_most job →
+    state.next + records ≤ most_number → buffer ≡ longest + most → text ≡ line_room * records → with_room job got state buffer text ≡ got
+with_room_lem job got state buffer text k h i b t =
+    let count : ℕ = bytes_of got in
     rw (
       le-leb (state.held + count) buffer (omega (arith, held_few job)),
       room_for_lem job state.next state.held count text h k i t,
@@ -91,6 +93,9 @@ few_bytes Failed behind = omega arith
 pub offered_there : {o text text' : List ℕ} {n : ℕ} → Put text 0 o n text' → n ≤ length text'
 unfolding put_at
 offered_there {o} {text} {text'} {n} h = let l = length-append o (drop (0 + length o) text) in rw h.holds (omega (arith, h.behind))
+
+pub offered_long : {o text text' : List ℕ} {n : ℕ} → Put text 0 o n text' → n ≡ length (take n text')
+offered_long {n = n} h = sym (length-take-le n _ (offered_there h))
 
 offered_front : {o text text' : List ℕ} {n : ℕ} → Put text 0 o n text' → take n text' ≡ o
 unfolding put_front
@@ -131,40 +136,35 @@ write_phase false state e = cc
 
 -- ---- a turn
 
-module _ (job : Job) (state : State) (before after text : List ℕ) (answer error : ℤ) (step : Step) (buffer' text' : List ℕ) (written : Bool) where
+module _ (job : Job) (state : State) (got : Got) (before after text : List ℕ) (step : Step) (buffer' text' : List ℕ) where
   -- what follows the read has room, and is what the run's read comes to
-  read_follows : (got : Got) → Moved most answer → state.held ≤ held_most job → state.next + records ≤ most_number → Room after text →
-      got ≡ got_of answer error → Follows job state got after text step buffer' text' →
-      FollowsBy job state (read_in (got_of answer error) (drop state.held after)) after text step buffer' text'
-  read_follows got m few small room e f =
-      let r : with_room job got state (length after) (length text) ≡ got_of answer error =
-      ap (λ (x : Got). with_room job x state (length after) (length text)) e
-      ∙ with_room_lem job answer error state (length after) (length text) m few small room.bytes room.lines in
-      rw r at f
+  read_follows : bytes_of got ≤ most → state.held ≤ held_most job → state.next + records ≤ most_number → Room after text →
+      Follows job state got after text step buffer' text' →
+      FollowsBy job state (read_in got (drop state.held after)) after text step buffer' text'
+  read_follows k few small room f = rw (with_room_lem job got state (length after) (length text) k few small room.bytes room.lines) at f
 
   -- with the bytes that stood behind those held over
-  pub turns_behind : (got : Got) (next : State) → Moved most answer → state.held ≤ held_most job → state.next + records ≤ most_number → Room after text →
-      length buffer' ≡ length after → standing state after ≡ standing state before → got ≡ got_of answer error →
-      Follows job state got after text step buffer' text' → next ≡ write_after written step.state →
-      (by : TurnsBy job state before (record { state = next; answer = answer; error = error; written = written }) buffer')
-      × (by.behind ≡ drop state.held after)
-  turns_behind got next m few small room same stays e f n =
-      let g : Got = got_of answer error in
-      let read : Read = read_in g (drop state.held after) in
-      let i : FollowsBy job state read after text step buffer' text' = read_follows got m few small room e f in
-      let came_few = few_bytes g (drop state.held after) in
-      let came_most = few_came answer error m in
+  pub turns_behind : (answer : Result ℕ ℤ) (sent : Result (Unit {0}) ℤ) (next : State) → got ≡ came_to answer → bytes_of got ≤ most →
+      state.held ≤ held_most job → state.next + records ≤ most_number → Room after text →
+      length buffer' ≡ length after → standing state after ≡ standing state before →
+      Follows job state got after text step buffer' text' → next ≡ write_after (is_ok sent) step.state →
+      (by : TurnsBy job state before (record { state = next; came = answer; sent = sent }) buffer') × (by.behind ≡ drop state.held after)
+  turns_behind answer sent next g k few small room same stays f n =
+      let written : Bool = is_ok sent in
+      let read : Read = read_in got (drop state.held after) in
+      let i : FollowsBy job state read after text step buffer' text' = read_follows k few small room f in
+      let came_few = few_bytes got (drop state.held after) in
       let rest : length (take state.held after) ≡ state.held = length-take-le state.held after (omega (arith, held_few job, room.bytes)) in
       let numbers : step.state.next ≤ state.next + records =
       omega (
         arith,
         ap (λ (s : Standing). s.next) i.stands,
         next_after job (standing state after) read,
-        few_worked job (length (take state.held after)) (length (bytes_in read)) (omega (arith, rest, few)) (omega (arith, came_few, came_most)),
+        few_worked job (length (take state.held after)) (length (bytes_in read)) (omega (arith, rest, few)) (omega (arith, came_few, k)),
       ) in (
         record {
           behind = drop state.held after;
-          stands = rw n
+          stands = rw (n, ← g)
               (write_stands written step.state buffer'
               ∙ ap (after_write written) (i.stands ∙ ap (λ (x : Standing). after_read job x read) stays));
           few = λ p.
@@ -174,61 +174,29 @@ module _ (job : Job) (state : State) (before after text : List ℕ) (answer erro
               (sym (ap (λ (s : Standing). s.phase) i.stands) ∙ write_phase written step.state (sym (ap (λ (s : State). s.phase) n) ∙ p))));
           inside = rw n
               (rw (write_held written step.state, i.held, same)
-              (omega (arith, held_after_lem job state.held read, few, held_few job, came_few, came_most, room.bytes)));
+              (omega (arith, held_after_lem job state.held read, few, held_few job, came_few, k, room.bytes)));
           numbered = rw n (rw (write_next written step.state) numbers);
         },
         refl,
       )
 
-  pub turns_by : (got : Got) (next : State) → Moved most answer → state.held ≤ held_most job → state.next + records ≤ most_number → Room after text →
-      length buffer' ≡ length after → standing state after ≡ standing state before → got ≡ got_of answer error →
-      Follows job state got after text step buffer' text' → next ≡ write_after written step.state →
-      TurnsBy job state before (record { state = next; answer = answer; error = error; written = written }) buffer'
-  turns_by got next m few small room same stays e f n = (turns_behind got next m few small room same stays e f n).0
+  pub turns_by : (answer : Result ℕ ℤ) (sent : Result (Unit {0}) ℤ) (next : State) → got ≡ came_to answer → bytes_of got ≤ most →
+      state.held ≤ held_most job → state.next + records ≤ most_number → Room after text →
+      length buffer' ≡ length after → standing state after ≡ standing state before →
+      Follows job state got after text step buffer' text' → next ≡ write_after (is_ok sent) step.state →
+      TurnsBy job state before (record { state = next; came = answer; sent = sent }) buffer'
+  turns_by answer sent next g k few small room same stays f n = (turns_behind answer sent next g k few small room same stays f n).0
 
   -- what is to be written after it
-  pub offered_is : (got : Got) → Moved most answer → state.held ≤ held_most job → state.next + records ≤ most_number → Room after text →
-      standing state after ≡ standing state before → got ≡ got_of answer error → Follows job state got after text step buffer' text' →
-      take step.offered text' ≡ offered job (standing state before) (read_in (got_of answer error) (drop state.held after))
-  offered_is got m few small room stays e f =
-      let read : Read = read_in (got_of answer error) (drop state.held after) in
-      let i : FollowsBy job state read after text step buffer' text' = read_follows got m few small room e f in
+  pub offered_is : bytes_of got ≤ most → state.held ≤ held_most job → state.next + records ≤ most_number → Room after text →
+      standing state after ≡ standing state before → Follows job state got after text step buffer' text' →
+      take step.offered text' ≡ offered job (standing state before) (read_in got (drop state.held after))
+  offered_is k few small room stays f =
+      let read : Read = read_in got (drop state.held after) in
+      let i : FollowsBy job state read after text step buffer' text' = read_follows k few small room f in
       offered_front i.offers ∙ ap (λ (s : Standing). offered job s read) stays
-
--- ---- the turns that are left
-
-pub falls : (phase : Phase) (left : ℕ) → 0 < left → left_in phase (left - 1) < left
-falls Reading left h = omega arith
-falls Ended left h = h
-falls NotStarted left h = h
-falls NotRead left h = h
-falls NotWritten left h = h
-falls TooLong left h = h
-
-pub still : (phase : Phase) (left : ℕ) → 0 < left_in phase left → phase ≡ Reading
-still Reading left h = refl
-still Ended left h = absurd (omega arith)
-still NotStarted left h = absurd (omega arith)
-still NotRead left h = absurd (omega arith)
-still NotWritten left h = absurd (omega arith)
-still TooLong left h = absurd (omega arith)
-
-pub left_at : (phase : Phase) (left : ℕ) → phase ≡ Reading → left_in phase left ≡ left
-left_at phase left e = rw e
-
-pub left_le : (phase : Phase) (left : ℕ) → left_in phase left ≤ left
-left_le Reading left = omega arith
-left_le Ended left = omega arith
-left_le NotStarted left = omega arith
-left_le NotRead left = omega arith
-left_le NotWritten left = omega arith
-left_le TooLong left = omega arith
-
-pub goes_on : (job : Job) (s s' : Standing) (turn : Turn) → s ≡ s' → s.phase ≡ Reading →
-    turned job s turn ≡ go_on s'.phase s' (turned job s' turn)
-goes_on job s s' turn e reading = rw (← e, reading)
 
 -- where a turn leads from there
 pub goes_on_to : (job : Job) (s s' s'' : Standing) (turn : Turn) → s'' ≡ turned job s turn → s ≡ s' → s.phase ≡ Reading →
     s'' ≡ go_on s'.phase s' (turned job s' turn)
-goes_on_to job s s' s'' turn t e reading = t ∙ goes_on job s s' turn e reading
+goes_on_to job s s' s'' turn t e reading = rw (t, ← e, reading)

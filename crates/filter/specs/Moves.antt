@@ -1,12 +1,12 @@
 -- What a run does to the bytes that a reader has left and to those that a writer holds, where these are known.
-use Rattle.std.specs.Prelude.{◌≡◌, Bool, true, false, cond, List, [], ◌∷◌, ◌++◌, ℕ, ◌<◌, take, length, Option, Some}
+use Rattle.std.specs.Prelude.{◌≡◌, Bool, true, false, cond, List, [], ◌∷◌, ◌++◌, ℕ, ◌<◌, take, length, Option, Some, is_ok}
 use Rattle.std.specs.Io.KnownBytes.{Appends, Consumes, IsAtEnd}
 use Rattle.jobs.specs.declared.Job.{Job}
 use Rattle.jobs.specs.Job.{takes_in, result_of}
 use Rattle.stream.specs.declared.state.Phase.TheVariants.{Ended}
 use Rattle.stream.specs.declared.state.State.{State}
 use Rattle.stream.specs.Run.{Standing, Turn, ended, bytes_in, offered, go_on, standing_of, input_of, written_of}
-use Rattle.stream.specs.Step.{got_of, read_in, standing}
+use Rattle.stream.specs.Step.{came_to, read_in, standing}
 use Rattle.filter.specs.declared.turn.Turned.{Turned}
 use Rattle.filter.specs.Turns.{TurnsBy}
 
@@ -26,7 +26,7 @@ pub record Moves (job : Job) (s : Standing) (turn : Turn) (left left' held held'
 -- a turn that went as a run's does, with what it moved
 pub record TurnMoves (job : Job) (state : State) (buffer : List ℕ) (r : Turned) (buffer' : List ℕ) (left left' held held' : Option (List ℕ)) : Type 0 where
   pub by : TurnsBy job state buffer r buffer'
-  pub moves : Moves job (standing state buffer) (record { read = read_in (got_of r.answer r.error) by.behind; written = r.written }) left left' held held'
+  pub moves : Moves job (standing state buffer) (record { read = read_in (came_to r.came) by.behind; written = is_ok r.sent }) left left' held held'
 
 module _ (job : Job) (arguments : ℕ) where
   -- what was to be written after the latest read, and whether all of it was

@@ -1,5 +1,5 @@
 -- The turns of the loop, and how many there may be.
-use Rattle.std.specs.Prelude.{◌≡◌, List, ℕ, ◌+◌, ◌*◌, ◌≤◌, ◌<◌, length}
+use Rattle.std.specs.Prelude.{◌≡◌, List, ℕ, ◌+◌, ◌*◌, ◌≤◌, ◌<◌, length, is_ok}
 use Rattle.record.specs.Record.{size}
 use Rattle.torn.specs.Pieces.{most as longest}
 use Rattle.lines.specs.Line.{line_room}
@@ -7,11 +7,10 @@ use Rattle.report.specs.Block.{most_number}
 use Rattle.report.specs.Program.{first_number}
 use Rattle.jobs.specs.declared.Job.{Job}
 use Rattle.jobs.specs.declared.Job.TheVariants.{Convert, Reproject, Salvage}
-use Rattle.stream.specs.declared.state.Phase.{Phase}
-use Rattle.stream.specs.declared.state.Phase.TheVariants.{Reading, Ended, NotStarted, NotRead, NotWritten, TooLong}
+use Rattle.stream.specs.declared.state.Phase.TheVariants.{Reading}
 use Rattle.stream.specs.declared.state.State.{State}
 use Rattle.stream.specs.Run.{Standing, Turn, after_read, after_write, standing_of}
-use Rattle.stream.specs.Step.{got_of, read_in, standing}
+use Rattle.stream.specs.Step.{came_to, read_in, standing}
 use Rattle.filter.specs.declared.turn.Turned.{Turned}
 
 -- the records of a read, and their bytes
@@ -36,19 +35,10 @@ pub record Room (buffer text : List ℕ) : Type 0 where
 pub record TurnsBy (job : Job) (state : State) (buffer : List ℕ) (r : Turned) (buffer' : List ℕ) : Type 0 where
   pub behind : List ℕ
   pub stands : standing r.state buffer'
-      ≡ after_write r.written (after_read job (standing state buffer) (read_in (got_of r.answer r.error) behind))
+      ≡ after_write (is_ok r.sent) (after_read job (standing state buffer) (read_in (came_to r.came) behind))
   pub few : r.state.phase ≡ Reading → r.state.held ≤ held_most job
   pub inside : r.state.held ≤ length buffer'
   pub numbered : r.state.next ≤ state.next + records
-
--- the turns that are left in a phase
-abbrev pub left_in : Phase → ℕ → ℕ
-left_in Reading left = left
-left_in Ended left = 0
-left_in NotStarted left = 0
-left_in NotRead left = 0
-left_in NotWritten left = 0
-left_in TooLong left = 0
 
 -- a run came to stand here by some turns; one that is still reading has used up all but those that are left, and with one more it
 -- could come to a number of more than 64 bits

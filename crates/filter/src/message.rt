@@ -5,10 +5,9 @@ ghost use Rattle.messages.specs.Message.{message_fits};
 
 use super::calls::write_whole;
 use jobs::Job;
-use lines::Text;
 use messages::{has_error, message};
-use std::io;
 use std::io::{Cursor, Write};
+use std::{io, str};
 use stream::Phase;
 
 // The room for the text of an error and what std puts behind it.
@@ -16,45 +15,40 @@ const ERROR_ROOM: usize = 128;
 
 // Says why a run stopped, or at its end what there is to say of the bytes that waited, which a run's text always has room for. The text
 // of the error, by its number, stands behind it. Where nothing can be said, there is nothing left to do.
+#[tactic(auto, using(lines::proofs::Buffers::counted_le, crate::proofs::Said::said_there))]
 pub(crate) fn say<E: Write>(
     job: Job,
     phase: Phase,
-    error: i32,
+    error: Option<i32>,
     rest: &[u8],
     text: &mut [u8],
     errors: &mut E,
 )
     requires { message_fits job phase rest.now (length text.old) ≡ true }
 {
-    let said = message(job, phase, rest, text);
-    match said {
-        Text::Bytes(count) => {
-            let _ = write_whole(errors, &text[..count]);
-            if has_error(phase) {
-                say_error(error, errors);
-            }
-        }
-        Text::TooShort => {}
+    let count = message(job, phase, rest, text).unwrap();
+    let _ = write_whole(errors, &text[..count]);
+    if let Some(number) = error
+        && has_error(phase)
+    {
+        say_error(number, errors);
     }
 }
 
 // Says a colon and the system's text of an error, and ends the line.
 fn say_error<E: Write>(number: i32, errors: &mut E) {
-    let error = io::Error::from_raw_os_error(number);
-    let mut text = Cursor::new([0u8; ERROR_ROOM]);
-    let _ = write!(text, "{error}");
-    let all = text.into_inner();
+    let mut text = Cursor::new([0; ERROR_ROOM]);
+    let _ = write!(text, "{}", io::Error::from_raw_os_error(number));
+    let text = text.into_inner();
+    let said = str::from_utf8(&text).map_or("", without_number);
     let _ = write_whole(errors, b": ");
-    let _ = write_whole(errors, without_number(&all));
+    let _ = write_whole(errors, said.as_bytes());
     let _ = write_whole(errors, b"\n");
 }
 
 // A text without " (os error N)", which stands at its end.
-fn without_number(text: &[u8]) -> &[u8]
+fn without_number(text: &str) -> &str
     ensures { StartsWith text.now result.now }
 {
-    match text.iter().rposition(|byte| *byte == b'(') {
-        Some(at) if 0 < at => &text[..at - 1],
-        _ => text,
-    }
+    text.rsplit_once(" (").map_or(text, |(said, _)| said)
 }

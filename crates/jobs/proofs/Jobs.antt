@@ -15,7 +15,7 @@ use Rattle.reprojection.proofs.Runs.{whole_more}
 use Rattle.session.specs.declared.Session.{Session}
 use Rattle.session.specs.Session.{opened}
 use Rattle.torn.specs.Pieces.{most}
-use Rattle.report.specs.Block.{block_session, block_lines, lines_fit, lines_of, session_at, most_number}
+use Rattle.report.specs.Block.{block_session, block_lines, lines_fit, lines_of, session_at}
 use Rattle.report.specs.Program.{end_room, first_number, printed_of, printed_from}
 use Rattle.report.proofs.Blocks.{room_of}
 use Rattle.report.proofs.Streams.{block_session_lem, block_lines_lem}
@@ -137,9 +137,3 @@ end_fits_lem Reproject next rest text e =
     let r = rooms next (length rest) text e in
     le-leb (length rest) text (omega (arith, r.1, (room_of next (length rest / size) text r.0).0))
 end_fits_lem Salvage next rest text e = e
-
--- and the number behind the last record has 64 bits
-pub number_fits : (job : Job) (next n text : ℕ) → room_for job next n text ≡ true → next ≤ most_number → next + worked_in job n ≤ most_number
-number_fits Convert next n text e h = (room_of next (n / size) text (rooms next n text e).0).1
-number_fits Reproject next n text e h = (room_of next (n / size) text (rooms next n text e).0).1
-number_fits Salvage next n text e h = omega (arith, h)

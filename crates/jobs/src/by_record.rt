@@ -5,32 +5,17 @@ ghost use Rattle.record.specs.Records.{records_in};
 ghost use Rattle.reprojection.specs.All.{whole_reprojected};
 ghost use Rattle.lines.specs.Buffer.{Placed};
 
-use lines::Text;
+use lines::put_bytes;
 use record::SIZE;
 use reprojection::reproject_records;
 
 // Puts the whole records of the input, reprojected, at the front of the text.
 #[tactic(auto, using(lines::proofs::Buffers::too_short))]
-pub(crate) fn reproject_block(input: &[u8], text: &mut [u8]) -> Text
+pub(crate) fn reproject_block(input: &[u8], text: &mut [u8]) -> Option<usize>
     ensures { Placed (leb (size * records_in input.now) (length text.old)) (whole_reprojected input.now) text.old result text.new }
 {
     let whole = SIZE * (input.len() / SIZE);
-    if text.len() < whole {
-        return Text::TooShort;
-    }
-    text[..whole].copy_from_slice(&input[..whole]);
+    put_bytes(&input[..whole], text)?;
     reproject_records(&mut text[..whole]);
-    Text::Bytes(whole)
-}
-
-// Puts bytes as they are at the front of the text.
-#[tactic(auto, using(lines::proofs::Buffers::too_short))]
-pub(crate) fn copy(input: &[u8], text: &mut [u8]) -> Text
-    ensures { Placed (leb (length input.now) (length text.old)) input.now text.old result text.new }
-{
-    if text.len() < input.len() {
-        return Text::TooShort;
-    }
-    text[..input.len()].copy_from_slice(input);
-    Text::Bytes(input.len())
+    Some(whole)
 }

@@ -13,8 +13,7 @@ pub fn worked(job: Job, count: usize) -> usize
     ensures { result ≡ worked_in job count }
 {
     match job {
-        Job::Convert => count / SIZE,
-        Job::Reproject => count / SIZE,
+        Job::Convert | Job::Reproject => count / SIZE,
         Job::Salvage => 0,
     }
 }
@@ -24,8 +23,7 @@ pub fn waiting(job: Job, count: usize) -> usize
     ensures { result ≡ waiting_in job count }
 {
     match job {
-        Job::Convert => count % SIZE,
-        Job::Reproject => count % SIZE,
+        Job::Convert | Job::Reproject => count % SIZE,
         Job::Salvage => count,
     }
 }
@@ -35,8 +33,7 @@ pub fn takes(job: Job, count: usize) -> bool
     ensures { result ≡ takes_in job count }
 {
     match job {
-        Job::Convert => true,
-        Job::Reproject => true,
+        Job::Convert | Job::Reproject => true,
         Job::Salvage => count <= MOST,
     }
 }
@@ -47,8 +44,7 @@ pub fn has_room(job: Job, next: u64, count: usize, text: usize) -> bool
     ensures { result ≡ room_for job next count text }
 {
     match job {
-        Job::Convert => lines_room(next, count, text),
-        Job::Reproject => lines_room(next, count, text),
+        Job::Convert | Job::Reproject => lines_room(next, count, text),
         Job::Salvage => count <= text,
     }
 }

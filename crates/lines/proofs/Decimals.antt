@@ -1,16 +1,19 @@
 -- Decimal text: how long it is, that it is the last digits of its number, and so what it should be.
-use mathlib.Core.Path.{◌≡◌, refl, ap, ◌∙◌}
+use mathlib.Core.Path.{◌≡◌, refl, sym, ap, ◌∙◌}
 use mathlib.Core.Bool.{true, false}
 use mathlib.Core.List.{List, [], ◌∷◌, ◌++◌}
-use Prim.Native.Nat.{ℕ, zero, suc, ◌+◌, ◌*◌, ◌/◌, ◌%◌, ◌^◌, ◌≤◌, ◌<◌}
-use native.Mathlib.Nat.{le_refl, pow-succ'}
+use Prim.Native.Nat.{ℕ, zero, suc, ◌+◌, ◌-◌, ◌*◌, ◌/◌, ◌%◌, ◌^◌, ◌≤◌, ◌<◌}
+use native.Mathlib.Nat.{le_refl, one-le-pow, pow-succ'}
 use native.Mathlib.Numerals.{add-one}
 use native.Mathlib.Omega.{arith}
 use lib.IntN.{ℤ, pos, negsuc}
-use lib.ListN.{length, get_or, length-append}
+use Rattle.std.specs.Prelude.{Option, Some, None, IfNone, IfSome, unwrap_or}
+use lib.ListN.{length, take, drop, get_or, length-append}
 use Rattle.whole.specs.declared.Signed.{Signed}
 use Rattle.whole.specs.Signed.{split_of}
 use Rattle.digits.specs.Digits.{nought, last_digits}
+use Rattle.digits.specs.Put.{Put}
+use Rattle.digits.proofs.Puts.{put_digits}
 use Rattle.digits.proofs.Values.{last_are_digits, value_last}
 use Rattle.lines.specs.Decimal.{hyphen, digits_in, decimal_of, number_text, DecimalText}
 
@@ -40,6 +43,16 @@ unfolding decimal_of
 decimal_le k zero p h = p
 decimal_le k (suc m) p h = digits_le k (suc m) (suc m) h
 
+-- so numbers of 8, 32 and 64 bits have 3, 10 and 20
+pub decimal_le_8 : (n : ℕ) → n < 2 ^ 8 → length (decimal_of n) ≤ 3
+decimal_le_8 n h = decimal_le 3 n (omega arith) (omega arith)
+
+pub decimal_le_32 : (n : ℕ) → n < 2 ^ 32 → length (decimal_of n) ≤ 10
+decimal_le_32 n h = decimal_le 10 n (omega arith) (omega arith)
+
+pub decimal_le_64 : (n : ℕ) → n < 2 ^ 64 → length (decimal_of n) ≤ 20
+decimal_le_64 n h = decimal_le 20 n (omega arith) (omega arith)
+
 digits_length : (k turns n : ℕ) → n ≤ turns → 10 ^ k ≤ n → n < 10 * 10 ^ k → length (digits_in turns n) ≡ suc k
 unfolding digits_in
 digits_length k zero n h l u = absurd (omega arith)
@@ -57,6 +70,14 @@ unfolding decimal_of
 decimal_length k zero p l u = absurd (omega arith)
 decimal_length k (suc m) p l u = digits_length k (suc m) (suc m) (le_refl (suc m)) l u
 
+-- they are one more than its logarithm has whole units, and 0 has one
+pub digits_counted : (n : ℕ) (log : Option ℕ) → IfNone log (n ≡ 0) → IfSome log (λ k. 10 ^ k ≤ n) → IfSome log (λ k. n < 10 * 10 ^ k) →
+    unwrap_or log 0 + 1 ≡ length (decimal_of n)
+unfolding decimal_of
+digits_counted n None z l u = rw z
+digits_counted zero (Some k) z l u = absurd (omega (arith, one-le-pow k 10 (omega arith)))
+digits_counted (suc m) (Some k) z l u = add-one k ∙ sym (decimal_length k (suc m) (omega arith) l u)
+
 -- ---- the digits as they are put
 
 last_digits_in : (turns n : ℕ) → last_digits (length (digits_in turns n)) n ≡ digits_in turns n
@@ -71,6 +92,14 @@ pub last_digits_lem : (n : ℕ) → last_digits (length (decimal_of n)) n ≡ de
 unfolding decimal_of last_digits
 last_digits_lem zero = refl
 last_digits_lem (suc m) = last_digits_in (suc m) (suc m)
+
+-- the digits of a number put in the place of a part that is as long as they are
+pub put_decimal_part : (l part : List ℕ) (at count n : ℕ) → count ≡ length (decimal_of n) → at + count ≤ length l →
+    part ≡ last_digits (length (take (at + count - at) (drop at l))) n →
+    Put l at (decimal_of n) (at + count) (take at l ++ (part ++ drop (at + count - at) (drop at l)))
+put_decimal_part l part at count n e h p =
+    let t : last_digits count n ≡ decimal_of n = ap (λ (k : ℕ). last_digits k n) e ∙ last_digits_lem n in
+    rw t at (put_digits l part at count n h p)
 
 -- ---- what it is
 

@@ -1,6 +1,6 @@
 -- The lines that document 01 has the program print. Each ends in a line feed.
-use Rattle.std.specs.Prelude.{List, [], ◌∷◌, ◌++◌, ℕ, ◌+◌, ℤ}
-use Rattle.parallel.specs.Refusal.{Outcome, refused, given}
+use Rattle.std.specs.Prelude.{List, [], ◌∷◌, ◌++◌, ℕ, ◌+◌, ℤ, Result, Ok, Err}
+use Rattle.refusal.specs.Outcome.{Outcome, refused, given}
 use Rattle.session.specs.declared.Session.{Session}
 use Rattle.lines.specs.Decimal.{decimal_of, number_text}
 
@@ -24,6 +24,11 @@ moved_word = 109 ∷ 111 ∷ 118 ∷ 101 ∷ 100 ∷ space
 -- a word with a number behind it
 abbrev pub named : List ℕ → ℕ → List ℕ
 named word n = word ++ decimal_of n
+
+-- an answer whose refusal is a number
+abbrev pub by_number : {A : Type 0} → Result A ℕ → Outcome A
+by_number (Ok a) = given a
+by_number (Err n) = refused n
 
 -- the line of the answer to the record of this number: "157079632 78539816", or "refused 17 at 4"
 unfoldable pub line_of : ℕ → Outcome (ℤ × ℤ) → List ℕ

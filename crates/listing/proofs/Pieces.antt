@@ -1,21 +1,18 @@
 -- What a salvage answers where the pieces have their rooms, and the listing that is made of its list.
-use mathlib.Core.Bool.{true}
 use mathlib.Core.List.{List, ◌++◌, append_assoc}
-use mathlib.Core.Path.{◌≡◌, refl, ap, ◌∙◌}
-use Prim.Native.Nat.{ℕ, ◌≤◌}
+use mathlib.Core.Path.{◌≡◌, refl, sym, ap, ◌∙◌}
+use Prim.Native.Nat.{ℕ, ◌*◌, ◌/◌, ◌≤◌}
 use native.Mathlib.Omega.{arith}
 use lib.ListN.{length, take, drop, length-append}
-use lib.Seq.{length-take-le}
-use Rattle.parallel.specs.Refusal.{Outcome, given}
+use lib.Seq.{length-take-le, take_at}
+use Rattle.std.specs.Prelude.{Result, Ok, Err, IsOk}
+use Rattle.refusal.specs.declared.Refusal.{Refusal}
+use Rattle.refusal.specs.Outcome.{Outcome, given}
+use Rattle.refusal.specs.Number.{meaning}
 use Rattle.digits.specs.Put.{put_front, Put}
-use Rattle.lines.specs.Buffer.{Placed}
-use Rattle.lines.specs.declared.buffer.Text.TheVariants.{Bytes}
-use Rattle.lines.proofs.Buffers.{placed}
-use Rattle.torn.specs.Parts.{taken_of, runs_of}
+use Rattle.torn.specs.Parts.{runs_of}
 use Rattle.torn.specs.Pieces.{most, list_room, list_of}
-use Rattle.torn.specs.Answer.{counts_of, salvage_of, list_after, meaning}
-use Rattle.torn.specs.declared.Salvaged.{Salvaged}
-use Rattle.torn.specs.declared.Salvaged.TheVariants.{Counts, Refused}
+use Rattle.torn.specs.Answer.{counts_of, salvage_of, list_after}
 use Rattle.torn.proofs.Answers.{accepts}
 use Rattle.torn.proofs.Laws.{runs_few}
 use Rattle.torn.proofs.Listed.{list_long}
@@ -24,11 +21,10 @@ use Rattle.listing.specs.Inside.{runs_in, Lent, Rooms}
 use Rattle.listing.proofs.Lists.{all_short, read_back}
 
 -- a salvage's counts, and a list with its runs at the front
-pub record Found (input list : List ℕ) (taken runs : ℕ) : Type 0 where
-  pub taken_all : taken ≡ length (taken_of input)
-  pub runs_all : runs ≡ length (runs_of input)
-  pub rest : List ℕ
-  pub listed : list ≡ list_of (runs_of input) ++ rest
+pub record Found (input list : List ℕ) (counts : ℕ × ℕ) : Type 0 where
+  pub counted : counts ≡ counts_of input
+  pub reaches : 8 * counts.1 ≤ length list
+  pub front : take (8 * counts.1) list ≡ list_of (runs_of input)
 
 -- ---- the answer
 
@@ -37,56 +33,68 @@ module _ {input records list text : List ℕ} {room : ℕ} (h : Rooms input reco
   n = length input
 
   -- parts of the pieces, of the right lengths
-  pub record_part : length (take n records) ≡ n
+  record_part : length (take n records) ≡ n
   record_part = length-take-le n records (omega (arith, h.short, h.taken))
 
-  pub list_part : length (take room list) ≡ room
+  list_part : length (take room list) ≡ room
   list_part = length-take-le room list (omega (arith, h.short, h.listed))
 
   abbrev answer : Outcome (ℕ × ℕ)
   answer = salvage_of input (length (take n records)) (length (take room list))
 
-  counts : answer ≡ given (counts_of input)
-  counts = accepts input _ _ h.short record_part (list_part ∙ e)
+  answer_is : answer ≡ given (counts_of input)
+  answer_is = accepts input _ _ h.short record_part (list_part ∙ e)
 
-  pub not_refused : {r : Salvaged} {number : ℕ} → meaning r ≡ answer → r ≡ Refused number → ⊥
-  not_refused m k =
-      let c = counts in
-      let z : ◌≡◌ {A = ℕ} 0 1 = cc in
-      omega arith
+  -- nothing is refused
+  pub is_ok : (r : Result (ℕ × ℕ) Refusal) → meaning r ≡ answer → IsOk r
+  is_ok (Ok counts) m = refl
+  is_ok (Err refusal) m = let a = answer_is in absurd cc
 
   -- the counts, and the runs at the front of the whole list
-  pub found : {r : Salvaged} {taken runs : ℕ} {part : List ℕ} → meaning r ≡ answer → part ≡ list_after input (take room list) answer →
-      r ≡ Counts taken runs → Found input (part ++ drop room list) taken runs
+  pub found : (r : Result (ℕ × ℕ) Refusal) {counts : ℕ × ℕ} {part : List ℕ} → meaning r ≡ answer →
+      part ≡ list_after input (take room list) answer → r ≡ Ok counts → Found input (part ++ drop room list) counts
   unfolding list_after put_front
-  found {taken = taken} {runs} m l k =
-      let c = counts in
-      let both : ◌≡◌ {A = ℕ × ℕ} (taken, runs) (counts_of input) = cc in
-      let front : List ℕ = list_of (runs_of input) in
-      let behind : List ℕ = drop (length front) (take room list) in
+  found r {counts} {part} m l k =
+      let a = answer_is in
+      let c : ◌≡◌ {A = ℕ × ℕ} counts (counts_of input) = cc in
+      let runs : List ℕ = list_of (runs_of input) in
+      let long : length runs ≡ 8 * counts.1 = list_long (runs_of input) ∙ ap (λ (p : ℕ × ℕ). 8 * p.1) (sym c) in
+      let whole : List ℕ = part ++ drop room list in
+      let is : whole ≡ runs ++ (drop (length runs) (take room list) ++ drop room list) =
+      rw (l, a) (append_assoc runs (drop (length runs) (take room list)) (drop room list)) in
       record {
-        taken_all = ap (λ (p : ℕ × ℕ). p.0) both;
-        runs_all = ap (λ (p : ℕ × ℕ). p.1) both;
-        rest = behind ++ drop room list;
-        listed = rw (l, c) (append_assoc front behind (drop room list));
+        counted = c;
+        reaches = omega (arith, long, ap length is, length-append runs (drop (length runs) (take room list) ++ drop room list));
+        front = rw is (take_at runs _ (8 * counts.1) long);
       }
 
 -- ---- the listing
 
-module _ {input list : List ℕ} {taken runs : ℕ} (f : Found input list taken runs) where
-  runs_are : length input ≤ most → runs_in list 0 runs ≡ runs_of input
-  runs_are h = rw f.runs_all (read_back list 0 (runs_of input) f.rest (all_short input h) f.listed)
+module _ {input list : List ℕ} {counts : ℕ × ℕ} (f : Found input list counts) (h : length input ≤ most) where
+  abbrev part : List ℕ
+  part = take (8 * counts.1) list
 
-  pub lent : {text : List ℕ} → length input ≤ most → listing_room ≤ length text → Lent list runs text
-  lent h room =
+  runs_are : runs_in part ≡ runs_of input
+  runs_are = rw f.front (read_back (runs_of input) (all_short input h))
+
+  part_long : length part ≡ 8 * length (runs_of input)
+  part_long = ap length f.front ∙ list_long (runs_of input)
+
+  -- the count has 64 bits
+  pub counts_few : counts.1 ≤ most
+  counts_few = omega (arith, ap (λ (p : ℕ × ℕ). p.1) f.counted, runs_few input, h)
+
+  pub lent : {text : List ℕ} → listing_room ≤ length text → Lent part text
+  lent room =
       record {
-        listed = omega (arith, f.runs_all, ap length f.listed, length-append (list_of (runs_of input)) f.rest, list_long (runs_of input));
-        few = omega (arith, f.runs_all, runs_few input);
-        short = rw (runs_are h) (all_short input h);
+        few = omega (arith, part_long, runs_few input, h);
+        short = rw runs_are (all_short input h);
         room = room;
       }
 
-  pub told : length input ≤ most → {text text' : List ℕ} {end : ℕ} →
-      Put text 0 (run_lines (runs_in list 0 runs) ++ counts_line (taken, runs)) end text' → Placed true (listing_of input) text (Bytes end) text'
+  pub told : {text text' : List ℕ} {end : ℕ} →
+      Put text 0 (run_lines (runs_in part) ++ counts_line (counts.0, length part / 8)) end text' → Put text 0 (listing_of input) end text'
   unfolding listing_of
-  told h p = placed refl (rw (runs_are h, f.taken_all, f.runs_all) at p)
+  told p =
+      let n : length part / 8 ≡ length (runs_of input) = omega (arith, part_long) in
+      rw (runs_are, n, ap (λ (p : ℕ × ℕ). p.0) f.counted) at p

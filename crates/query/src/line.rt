@@ -1,146 +1,67 @@
 // A line of the input, read a byte at a time: a letter, then numbers with spaces between them, or a space and a text, or
-// a space and a note's digits.
-use super::note_byte::NoteByte;
-use super::number::Number;
-use super::request::Request;
-use super::text::Text;
+// a space and a note's digits. Reads cut a line anywhere, and it may be of any length.
+use crate::letter::Letter;
+use crate::note_digits::NoteDigits;
+use crate::numbers::Numbers;
+use crate::request::Request;
+use crate::text::Text;
+use crate::unreadable::Unreadable;
 
-// The letter of a line that has no byte yet: no line holds it.
-pub const NONE: u8 = b'\n';
-
-// The letter of a line that has a text.
-const TEXT: u8 = b'p';
-
-// The letter of a line that has a note.
-const NOTE: u8 = b'r';
-
-// The most numbers that a request has.
-const MOST: usize = 4;
-
-#[derive(Clone, Copy)]
-pub struct Line {
-    pub letter: u8,
-    pub numbers: [Number; MOST],
-    pub count: usize,
-    // The number that is being read.
-    pub number: Number,
-    // Whether the numbers so far can begin a request's.
-    pub good: bool,
-    // The text, or the bytes of the note.
-    pub text: Text,
-    // The byte of the note that is being read.
-    pub byte: NoteByte,
+#[derive(Default, Drop)]
+pub(crate) enum Line {
+    // No byte yet.
+    #[default]
+    Empty,
+    // A letter alone.
+    Letter(Letter),
+    Numbers(Numbers),
+    Text(Text),
+    Note(NoteDigits),
+    // What no byte more makes a request of.
+    Unreadable,
 }
 
 impl Line {
-    pub(crate) fn new() -> Line {
-        Line {
-            letter: NONE,
-            numbers: [Number::new(); MOST],
-            count: 0,
-            number: Number::new(),
-            good: true,
-            text: Text::new(),
-            byte: NoteByte::new(),
+    // Adds a byte.
+    pub(crate) fn push(&mut self, byte: u8) {
+        if self.try_push(byte).is_err() {
+            *self = Line::Unreadable;
         }
     }
 
-    // The line with one byte more.
-    pub(crate) fn with_byte(mut self, byte: u8) -> Line {
-        if self.letter == NONE {
-            self.letter = byte;
-            return self;
+    fn try_push(&mut self, byte: u8) -> Result<(), Unreadable> {
+        match self {
+            Line::Empty => *self = Line::Letter(Letter::try_from(byte)?),
+            Line::Letter(letter) => *self = Line::behind(*letter, byte)?,
+            Line::Numbers(numbers) => numbers.push(byte)?,
+            Line::Text(text) => text.push(byte),
+            Line::Note(note) => note.push(byte)?,
+            Line::Unreadable => {}
         }
-        if self.letter == TEXT {
-            return self.with_text_byte(byte);
-        }
-        if self.letter == NOTE {
-            return self.with_note_byte(byte);
-        }
-        if byte == b' ' {
-            return self.with_end();
-        }
-        let number = self.number;
-        let longer = number.with_byte(byte);
-        self.number = longer;
-        self
+        Ok(())
     }
 
-    // The line with one byte more of its text.
-    fn with_text_byte(mut self, byte: u8) -> Line {
-        let text = self.text;
-        let longer = text.with_byte(byte);
-        self.text = longer;
-        self
-    }
-
-    // The line with one byte more: the one before its note, or a digit of that.
-    fn with_note_byte(mut self, byte: u8) -> Line {
-        let text = self.text;
-        if !text.begun {
-            return self.with_text_byte(byte);
-        }
-        let read = self.byte;
-        let longer = read.with_digit(byte);
-        self.byte = longer;
-        if longer.half {
-            return self;
-        }
-        self.with_text_byte(longer.value)
-    }
-
-    // The line with the number that is being read, if there is one, among its numbers.
-    fn with_end(mut self) -> Line {
-        let number = self.number;
-        if !number.begun {
-            return self;
-        }
-        let at = self.count;
-        if at >= MOST || !self.takes(number) {
-            self.good = false;
-            return self;
-        }
-        self.numbers[at] = number;
-        self.count = at + 1;
-        let next = Number::new();
-        self.number = next;
-        self
-    }
-
-    // Whether a number is what comes next: after the kind, 'F' and 'I' ask for floats; 's' asks for counts, and the others for
-    // whole numbers.
-    fn takes(self, number: Number) -> bool {
-        if 0 < self.count && (self.letter == b'F' || self.letter == b'I') {
-            number.is_float()
-        } else if self.letter == b's' {
-            number.is_count()
-        } else {
-            number.is_whole()
+    // The line of a letter and the byte behind it, which is a space before a text or a note.
+    fn behind(letter: Letter, byte: u8) -> Result<Line, Unreadable> {
+        match (letter, byte) {
+            (Letter::ReadText, b' ') => Ok(Line::Text(Text::new())),
+            (Letter::RestoreNote, b' ') => Ok(Line::Note(NoteDigits::new())),
+            (Letter::ReadText | Letter::RestoreNote, _) => Err(Unreadable),
+            _ => {
+                let mut numbers = Numbers::new(letter);
+                numbers.push(byte)?;
+                Ok(Line::Numbers(numbers))
+            }
         }
     }
 
-    // The request of the line, which has ended.
-    pub(crate) fn request(self) -> Request {
-        let line = self.with_end();
-        let letter = line.letter;
-        if !line.good || line.count != asked(letter) {
-            return Request::Unreadable;
+    // What the line, which has ended, asks for.
+    pub(crate) fn request(self) -> Result<Request, Unreadable> {
+        match self {
+            Line::Numbers(numbers) => numbers.request(),
+            Line::Text(text) => Ok(Request::ReadText(text)),
+            Line::Note(note) => Ok(Request::RestoreNote(note.ended()?)),
+            Line::Empty | Line::Letter(_) | Line::Unreadable => Err(Unreadable),
         }
-        if letter == TEXT || letter == NOTE {
-            let text = line.text;
-            let byte = line.byte;
-            return Request::of_text(letter == NOTE, text.good && byte.can_end());
-        }
-        let numbers = line.numbers;
-        Request::of_numbers(letter, numbers[0], numbers[1], numbers[2], numbers[3])
-    }
-}
-
-// How many numbers a letter asks for.
-fn asked(letter: u8) -> usize {
-    match letter {
-        TEXT | NOTE => 0,
-        b's' | b't' | b'w' => 2,
-        _ => MOST,
     }
 }

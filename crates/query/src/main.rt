@@ -8,18 +8,20 @@
 #![tactic(auto)]
 
 mod answers;
+mod letter;
 mod line;
-mod note_byte;
+mod note_digits;
 mod number;
+mod numbers;
 mod request;
 mod text;
-mod values;
+mod unreadable;
 mod writing;
 
 use answers::answer;
-use line::{Line, NONE};
-use std::io;
+use line::Line;
 use std::io::Read;
+use std::{io, mem};
 
 // The bytes of a read.
 const SPACE: usize = 65536;
@@ -33,39 +35,30 @@ fn main(rt: HostRuntime) {
 fn run(rt: &HostRuntime) -> io::Result<()> {
     let mut input = rt.stdin();
     let mut space = [0; SPACE];
-    let mut line = Line::new();
+    let mut line = Line::Empty;
     // A count, so that the loop ends.
     for _ in 0..u64::MAX {
         match input.read(&mut space) {
             Ok(0) => break,
-            Ok(n) => line = answer_all(rt, line, &space[..n])?,
+            Ok(n) => answer_all(rt, &mut line, &space[..n])?,
             // What is left may be a part of a request, and is not answered.
             Err(_) => return eprintln!(rt; "query: standard input cannot be read"),
         }
     }
-    if line.letter != NONE {
-        answer_line(rt, line)?;
+    match line {
+        Line::Empty => Ok(()),
+        line => answer(rt, line.request()),
     }
-    Ok(())
 }
 
 // Answers each line that ends in the bytes; the line left over goes on with the next bytes.
-fn answer_all(out: &impl Print, line: Line, bytes: &[u8]) -> io::Result<Line> {
-    let mut line = line;
-    for i in 0..bytes.len() {
-        let byte = bytes[i];
+fn answer_all(out: &impl Print, line: &mut Line, bytes: &[u8]) -> io::Result<()> {
+    for &byte in bytes {
         if byte == b'\n' {
-            answer_line(out, line)?;
-            line = Line::new();
+            answer(out, mem::take(line).request())?;
         } else {
-            line = line.with_byte(byte);
+            line.push(byte);
         }
     }
-    Ok(line)
-}
-
-// Answers a line that has ended.
-fn answer_line(out: &impl Print, line: Line) -> io::Result<()> {
-    let text = line.text;
-    answer(out, line.request(), text)
+    Ok(())
 }

@@ -1,94 +1,93 @@
-// A number of a line, read a byte at a time: a whole number in decimal digits, with '-' where it is below 0, or a float by
+// A number of a line, read a byte at a time: a whole number by decimal digits, with '-' where it is below 0, or a float by
 // its 64 bits, an 'x' and hexadecimal digits.
-ghost use Rattle.std.specs.Prelude.{◌<◌};
+use crate::unreadable::Unreadable;
+use std::num::f64_from_bits_with_nan;
 
 // The most digits of a float: those of 64 bits.
 const MOST_DIGITS: u8 = 16;
 
-#[derive(Clone, Copy)]
-pub struct Number {
-    pub negative: bool,
-    // Without the sign; past 64 bits the largest that they hold.
-    pub size: u64,
-    pub hexadecimal: bool,
-    // How many digits it has, or one more than MOST_DIGITS where it has more than that.
-    pub digits: u8,
-    // Whether it has a byte, and whether its bytes can begin a number.
-    pub begun: bool,
-    pub good: bool,
+// How a number begins: by its first digit, '-' or 'x'.
+#[derive(Clone, Copy, Default)]
+enum Form {
+    #[default]
+    Plain,
+    Minus,
+    Bits,
+}
+
+#[derive(Clone, Copy, Default)]
+pub(crate) struct Number {
+    form: Form,
+    // What its digits count; past 64 bits the largest that they hold.
+    size: u64,
+    // How many digits it has, or the largest count where it has more than that.
+    digits: u8,
 }
 
 impl Number {
-    // The number before its first byte.
-    pub(crate) fn new() -> Number {
-        Number {
-            negative: false,
-            size: 0,
-            hexadecimal: false,
-            digits: 0,
-            begun: false,
-            good: true,
+    // The number that begins with this byte.
+    pub(crate) fn begun(byte: u8) -> Result<Number, Unreadable> {
+        let mut number = Number::default();
+        match byte {
+            b'-' => number.form = Form::Minus,
+            b'x' => number.form = Form::Bits,
+            _ => number.push(byte)?,
+        }
+        Ok(number)
+    }
+
+    // Adds a digit.
+    pub(crate) fn push(&mut self, byte: u8) -> Result<(), Unreadable> {
+        let base = match self.form {
+            Form::Plain | Form::Minus => 10,
+            Form::Bits => 16,
+        };
+        let digit = char::from(byte).to_digit(base).ok_or(Unreadable)?;
+        let shifted = self.size.saturating_mul(u64::from(base));
+        self.size = shifted.saturating_add(u64::from(digit));
+        self.digits = self.digits.saturating_add(1);
+        Ok(())
+    }
+
+    // The number, which has ended.
+    pub(crate) fn ended(self) -> Result<Number, Unreadable> {
+        match (self.form, self.digits) {
+            (Form::Plain | Form::Minus, 1..) | (Form::Bits, 1..=MOST_DIGITS) => Ok(self),
+            _ => Err(Unreadable),
         }
     }
 
-    // The number with one byte more.
-    pub(crate) fn with_byte(mut self, byte: u8) -> Number {
-        let first = !self.begun;
-        self.begun = true;
-        if first && byte == b'-' {
-            self.negative = true;
-            return self;
+    // The number as a kind, or 0, which is none.
+    pub(crate) fn kind(self) -> Result<u8, Unreadable> {
+        match self.form {
+            Form::Plain => Ok(u8::try_from(self.size).unwrap_or(0)),
+            Form::Minus => Ok(0),
+            Form::Bits => Err(Unreadable),
         }
-        if first && byte == b'x' {
-            self.hexadecimal = true;
-            return self;
+    }
+
+    // The number in 32 bits, or the farthest on its side of 0.
+    pub(crate) fn whole(self) -> Result<i32, Unreadable> {
+        match self.form {
+            Form::Plain => Ok(i32::try_from(self.size).unwrap_or(i32::MAX)),
+            Form::Minus => Ok(i32::try_from(self.size).map_or(i32::MIN, |size| -size)),
+            Form::Bits => Err(Unreadable),
         }
-        self.with_digit(digit_of(byte))
     }
 
-    fn with_digit(mut self, digit: u64) -> Number {
-        let base: u64 = if self.hexadecimal { 16 } else { 10 };
-        self.good = self.good && digit < base;
-        self.size = grown(self.size, base, digit);
-        if self.digits <= MOST_DIGITS {
-            self.digits = self.digits + 1;
+    // The number as a count, which has no sign.
+    pub(crate) fn count(self) -> Result<u64, Unreadable> {
+        match self.form {
+            Form::Plain => Ok(self.size),
+            Form::Minus | Form::Bits => Err(Unreadable),
         }
-        self
     }
 
-    // Whether its bytes are a whole number.
-    pub(crate) fn is_whole(self) -> bool {
-        self.good && 0 < self.digits && !self.hexadecimal
-    }
-
-    // Whether its bytes are a count, which has no sign.
-    pub(crate) fn is_count(self) -> bool {
-        self.is_whole() && !self.negative
-    }
-
-    // Whether its bytes are a float's 64 bits.
-    pub(crate) fn is_float(self) -> bool {
-        self.good && 0 < self.digits && self.digits <= MOST_DIGITS && self.hexadecimal
-    }
-}
-
-// What a digit counts, and 16 for a byte that is none.
-pub(crate) fn digit_of(byte: u8) -> u64 {
-    match byte {
-        b'0'..=b'9' => (byte - b'0') as u64,
-        b'a'..=b'f' => (byte - b'a') as u64 + 10,
-        b'A'..=b'F' => (byte - b'A') as u64 + 10,
-        _ => 16,
-    }
-}
-
-// The size with a digit more.
-fn grown(size: u64, base: u64, digit: u64) -> u64
-    requires { 0 < base }
-{
-    if size > (u64::MAX - digit) / base {
-        u64::MAX
-    } else {
-        size * base + digit
+    // The float with these bits. Every NaN's bits give one NaN, since no float is made of such bits.
+    pub(crate) fn float(self) -> Result<f64, Unreadable> {
+        match self.form {
+            Form::Bits => Ok(f64_from_bits_with_nan(self.size)),
+            Form::Plain | Form::Minus => Err(Unreadable),
+        }
     }
 }

@@ -1,59 +1,114 @@
 // What a line asks for.
-use super::number::Number;
-use super::values::{float, narrow, narrow_kind};
+use crate::letter::Letter;
+use crate::number::Number;
+use crate::text::Text;
+use crate::unreadable::Unreadable;
+use degrees::Degrees;
 
-#[derive(Clone, Copy)]
-pub enum Request {
-    // The half-width of a parallel: kind and latitude.
-    Width(u8, i32),
-    // A position's place: kind, central meridian, longitude and latitude.
-    Forward(u8, i32, i32, i32),
-    // A place's position: kind, central meridian, x and y.
-    Inverse(u8, i32, i32, i32),
+#[derive(Drop)]
+pub(crate) enum Request {
+    // The half-width of a parallel.
+    Width {
+        kind: u8,
+        latitude: i32,
+    },
+    // A position's place.
+    Forward {
+        kind: u8,
+        central: i32,
+        longitude: i32,
+        latitude: i32,
+    },
+    // A place's position.
+    Inverse {
+        kind: u8,
+        central: i32,
+        x: i32,
+        y: i32,
+    },
     // The same two on floats.
-    ForwardDegrees(u8, f64, f64, f64),
-    InverseDegrees(u8, f64, f64, f64),
-    // The position of the line's text.
-    ReadText,
-    // A position's text: longitude and latitude.
-    WriteText(i32, i32),
-    // A note of two counts: moved and refused.
-    SaveNote(u64, u64),
-    // The counts in the line's note.
-    RestoreNote,
-    Unreadable,
+    ForwardDegrees {
+        kind: u8,
+        central: f64,
+        at: Degrees,
+    },
+    InverseDegrees {
+        kind: u8,
+        central: f64,
+        x: f64,
+        y: f64,
+    },
+    // The position of a text.
+    ReadText(Text),
+    // A position's text.
+    WriteText {
+        longitude: i32,
+        latitude: i32,
+    },
+    // A note of two counts.
+    SaveNote {
+        moved: u64,
+        refused: u64,
+    },
+    // The counts in a note.
+    RestoreNote(Text),
 }
 
 impl Request {
-    // The request of a letter and its numbers; those that it does not ask for play no part.
-    pub(crate) fn of_numbers(
-        letter: u8,
-        first: Number,
-        second: Number,
-        third: Number,
-        fourth: Number,
-    ) -> Request {
-        let kind = narrow_kind(first);
-        match letter {
-            b'w' => Request::Width(kind, narrow(second)),
-            b'f' => Request::Forward(kind, narrow(second), narrow(third), narrow(fourth)),
-            b'i' => Request::Inverse(kind, narrow(second), narrow(third), narrow(fourth)),
-            b'F' => Request::ForwardDegrees(kind, float(second), float(third), float(fourth)),
-            b'I' => Request::InverseDegrees(kind, float(second), float(third), float(fourth)),
-            b't' => Request::WriteText(narrow(first), narrow(second)),
-            b's' => Request::SaveNote(first.size, second.size),
-            _ => Request::Unreadable,
+    // The request of a letter and its numbers.
+    pub(crate) fn of_numbers(letter: Letter, numbers: &[Number]) -> Result<Request, Unreadable> {
+        match (letter, numbers) {
+            (Letter::Width, [kind, latitude]) => Ok(Request::Width {
+                kind: kind.kind()?,
+                latitude: latitude.whole()?,
+            }),
+            (Letter::WriteText, [longitude, latitude]) => Ok(Request::WriteText {
+                longitude: longitude.whole()?,
+                latitude: latitude.whole()?,
+            }),
+            (Letter::SaveNote, [moved, refused]) => Ok(Request::SaveNote {
+                moved: moved.count()?,
+                refused: refused.count()?,
+            }),
+            (_, [kind, numbers @ ..]) => Request::on_map(letter, kind.kind()?, numbers),
+            _ => Err(Unreadable),
         }
     }
 
-    // The request of a line with a text or a note, good or not.
-    pub(crate) fn of_text(is_note: bool, good: bool) -> Request {
-        if !good {
-            Request::Unreadable
-        } else if is_note {
-            Request::RestoreNote
-        } else {
-            Request::ReadText
+    // The request of a letter that asks about a map: its kind, and the other numbers.
+    fn on_map(letter: Letter, kind: u8, numbers: &[Number]) -> Result<Request, Unreadable> {
+        match (letter, numbers) {
+            (Letter::Forward, [central, longitude, latitude]) => Ok(Request::Forward {
+                kind,
+                central: central.whole()?,
+                longitude: longitude.whole()?,
+                latitude: latitude.whole()?,
+            }),
+            (Letter::Inverse, [central, x, y]) => Ok(Request::Inverse {
+                kind,
+                central: central.whole()?,
+                x: x.whole()?,
+                y: y.whole()?,
+            }),
+            (Letter::ForwardDegrees, [central, longitude, latitude]) => {
+                let longitude = longitude.float()?;
+                let latitude = latitude.float()?;
+                Ok(Request::ForwardDegrees {
+                    kind,
+                    central: central.float()?,
+                    at: Degrees {
+                        longitude,
+                        latitude,
+                    },
+                })
+            }
+            (Letter::InverseDegrees, [central, x, y]) => Ok(Request::InverseDegrees {
+                kind,
+                central: central.float()?,
+                x: x.float()?,
+                y: y.float()?,
+            }),
+            _ => Err(Unreadable),
         }
     }
 }

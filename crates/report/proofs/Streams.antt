@@ -1,18 +1,19 @@
 -- What the program prints: how reads add up, and what `last_lines` answers.
+use Rattle.std.specs.Bool.{◌==◌}
+use mathlib.Core.Bool.{true, false}
 use mathlib.Core.Path.{◌≡◌, refl, sym, ap, ◌∙◌}
 use mathlib.Core.List.{List, [], ◌∷◌, ◌++◌, append_assoc, append-nil}
 use Prim.Native.Nat.{ℕ, zero, suc, ◌+◌, ◌-◌, ◌<◌}
 use native.Mathlib.Nat.{add-zero, add_assoc, zero-add}
 use native.Mathlib.Omega.{arith}
-use borrow.Author.Tests.{ne_eqb}
+use borrow.Author.Tests.{ne_eqb, eqb-true}
+use lib.IntN.{ℤ}
 use lib.ListN.{length}
-use Rattle.parallel.specs.Refusal.{unless}
-use Rattle.projection.specs.Answer.{meaning}
+use Rattle.refusal.specs.Outcome.{Outcome, unless}
 use Rattle.record.specs.Record.{size}
 use Rattle.record.specs.Records.{record_at, records_in, tail_of}
 use Rattle.record.proofs.Records.{tail_length, records_more, record_before, record_after, tail_more}
 use Rattle.session.specs.declared.Session.{Session}
-use Rattle.session.specs.declared.Fed.{Fed}
 use Rattle.session.specs.Session.{opened, feed_of, session_after}
 use Rattle.session.specs.History.{session_of}
 use Rattle.lines.specs.Line.{line_of, closing_of}
@@ -140,14 +141,13 @@ session_of_history s = history_from s (records_in s)
 
 -- ---- `last_lines`
 
-pub end_none : (t : Session) (next : ℕ) (tail : List ℕ) → length tail ≡ 0 → end_of t next tail ≡ closing_of t
+pub end_none : (t : Session) (next : ℕ) (tail : List ℕ) → (length tail == 0) ≡ true → end_of t next tail ≡ closing_of t
 unfolding end_of
 end_none t next [] h = refl
-end_none t next (b ∷ tail) h = absurd (omega arith)
+end_none t next (b ∷ tail) h = let e : length (b ∷ tail) ≡ 0 = eqb-true _ _ h in absurd (omega arith)
 
-pub end_some : (t : Session) (next : ℕ) (tail : List ℕ) (fed : Fed) (room : ℕ) → (length tail ≡ 0 → ⊥) → room ≡ size →
-    meaning fed.answer ≡ feed_of t tail room → fed.session ≡ session_after t (feed_of t tail room) →
-    end_of t next tail ≡ line_of next (meaning fed.answer) ++ closing_of fed.session
+pub end_some : (t : Session) (next : ℕ) (tail : List ℕ) {answer : Outcome (ℤ × ℤ)} {after : Session} → (length tail == 0) ≡ false →
+    answer ≡ feed_of t tail size → after ≡ session_after t (feed_of t tail size) → end_of t next tail ≡ line_of next answer ++ closing_of after
 unfolding end_of
-end_some t next [] fed room h e a s = absurd (h refl)
-end_some t next (b ∷ tail) fed room h e a s = rw (a, s, e)
+end_some t next [] h a s = cc
+end_some t next (b ∷ tail) h a s = rw (a, s)

@@ -1,6 +1,6 @@
 -- The records of a run of bytes, fed to a session one after the other.
 use Rattle.std.specs.Prelude.{◌≡◌, Bool, cond, ◌&&◌, List, [], ◌++◌, ℕ, zero, suc, ◌+◌, ◌*◌, leb, ℤ, length}
-use Rattle.parallel.specs.Refusal.{Outcome}
+use Rattle.refusal.specs.Outcome.{Outcome}
 use Rattle.record.specs.Record.{size}
 use Rattle.record.specs.Records.{record_at, records_in}
 use Rattle.session.specs.declared.Session.{Session}

@@ -1,6 +1,6 @@
 -- What the program `convert` prints of its input, and how it comes to it by reads.
 use Rattle.std.specs.Prelude.{◌≡◌, List, [], ◌∷◌, ◌++◌, ℕ, zero, suc, ◌+◌, ◌<◌, length}
-use Rattle.parallel.specs.Refusal.{refused}
+use Rattle.refusal.specs.Outcome.{refused}
 use Rattle.record.specs.Record.{size}
 use Rattle.record.specs.Records.{record_at, records_in, tail_of}
 use Rattle.session.specs.declared.Session.{Session}

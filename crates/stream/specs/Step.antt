@@ -1,5 +1,5 @@
 -- How the code's state and buffers stand for those of a run.
-use Rattle.std.specs.Prelude.{◌≡◌, Bool, true, false, cond, ◌&&◌, List, ℕ, ◌+◌, eqb, leb, ℤ, pos, negsuc, length, take, drop}
+use Rattle.std.specs.Prelude.{◌≡◌, Bool, true, false, cond, ◌&&◌, List, ℕ, ◌+◌, eqb, leb, ℤ, pos, negsuc, length, take, drop, Result, Ok, Err}
 use Rattle.digits.specs.Put.{put_front, Put}
 use Rattle.jobs.specs.declared.Job.{Job}
 use Rattle.jobs.specs.Job.{waiting_in, room_for}
@@ -19,14 +19,19 @@ standing state buffer =
 abbrev pub eintr : ℕ
 eintr = 4
 
--- what a read came to, by its answer and the error's number: only the answer 0 is the end
+-- what a read came to, by the bytes that came or the error's number: only no bytes are the end
 abbrev pub got_by_error : ℤ → Got
 got_by_error (pos n) = cond (eqb n eintr) Interrupted Failed
 got_by_error (negsuc n) = Failed
 
+abbrev pub came_to : Result ℕ ℤ → Got
+came_to (Ok n) = cond (eqb n 0) End (SomeBytes n)
+came_to (Err error) = got_by_error error
+
+-- the same by the answer, which is the number of the bytes or below 0
 abbrev pub got_of : ℤ → ℤ → Got
-got_of (pos n) error = cond (eqb n 0) End (SomeBytes n)
-got_of (negsuc n) error = got_by_error error
+got_of (pos n) error = came_to (Ok n)
+got_of (negsuc n) error = came_to (Err error)
 
 abbrev pub bytes_of : Got → ℕ
 bytes_of (SomeBytes n) = n

@@ -1,7 +1,12 @@
 -- `messages::named` meets its contract: the words stand behind the name of the program.
 use mathlib.Core.Path.{refl}
-use Rattle.lines.proofs.Buffers.{placed, put_behind}
+use lib.ListN.{length}
+use Rattle.lines.proofs.Buffers.{placed, put_behind, put_part, was_put}
 use Rattle.messages.proofs.named.Goals as goal
 
 pub returns : goal.returns
-returns c = placed refl (put_behind c.put_name-name.ensures.put c.put.ensures)
+returns c =
+    let words = c.put_bytes-2 in
+    placed refl
+    (put_behind (rw c.name.ensures.value at (was_put _ c.put_bytes.ensures c.unwrap-name.ensures))
+    (put_part _ (length c.put_bytes.new.text) words.ensures c.unwrap.ensures words.auto.text))

@@ -1,8 +1,8 @@
 -- `lines::line::answer_line` meets its contract.
-use native.Mathlib.Omega.{arith}
+use borrow.Author.Rules.{rules}
 use borrow.Author.Tests.{le-leb}
 use Rattle.lines.proofs.Buffers.{placed}
 use Rattle.lines.proofs.line.answer_line.Goals as goal
 
 pub returns : goal.returns
-returns c = placed (le-leb _ _ (omega arith)) c.put_line-end.ensures
+returns c = search (rules, placed, le-leb)

@@ -1,8 +1,8 @@
 -- `lines::line::closing_line` meets its contract.
-use native.Mathlib.Omega.{arith}
+use borrow.Author.Rules.{rules}
 use borrow.Author.Tests.{le-leb}
 use Rattle.lines.proofs.Buffers.{placed}
 use Rattle.lines.proofs.line.closing_line.Goals as goal
 
 pub returns : goal.returns
-returns c = placed (le-leb _ _ (omega arith)) c.put_closing-end.ensures
+returns c = search (rules, placed, le-leb)

@@ -9,7 +9,7 @@ use Rattle.lines.proofs.line.put_both.Goals as goal
 
 pub returns : goal.returns
 returns c =
-    let a = c.args in
-    let h : c.put_named-gap.result ≤ length c.put_named-gap.new.text =
-    omega (arith, c.put_named-gap.ensures.behind, length-append a.first.now (decimal_of a.m)) in
-    put_behind c.put_named-gap.ensures (put_twice h c.put_named-end.ensures c.put_byte.ensures)
+    let first = c.args.first in
+    let h : c.put-gap.result ≤ length c.put-gap.new.text =
+    omega (arith, c.put-gap.ensures.behind, length-append first.word.now (decimal_of first.number)) in
+    put_behind c.put-gap.ensures (put_twice h c.put-end.ensures c.put_at.ensures)

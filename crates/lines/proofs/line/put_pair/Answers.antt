@@ -8,8 +8,8 @@ use Rattle.lines.proofs.line.put_pair.Goals as goal
 
 pub returns : goal.returns
 returns c =
-    let h : c.put_byte-second.result ≤ length c.put_byte-second.new.text = omega arith in
+    let h : c.put_at-second.result ≤ length c.put_at-second.new.text = omega arith in
     let k : c.put_number-gap.result ≤ length c.put_number-gap.new.text = omega arith in
     put_behind (put_number c.ranges.x c.put_number-gap.ensures.put)
-    (put_twice k c.put_byte-second.ensures
-    (put_twice h (put_number c.ranges.y c.put_number-end.ensures.put) c.put_byte.ensures))
+    (put_twice k c.put_at-second.ensures
+    (put_twice h (put_number c.ranges.y c.put_number-end.ensures.put) c.put_at.ensures))

@@ -1,23 +1,27 @@
 -- `report::block::line_at` meets its contract: the part that is lent has the room of a line, and no more.
+use mathlib.Core.Path.{◌≡◌}
 use Prim.Native.Nat.{◌+◌, ◌≤◌}
 use native.Mathlib.Omega.{arith}
-use Rattle.lines.specs.Line.{line_room}
+use borrow.Author.Rules.{rules}
+use Rattle.refusal.specs.Number.{meaning}
+use Rattle.lines.specs.Line.{line_room, by_number}
 use Rattle.lines.proofs.Buffers.{put_part, part_le}
 use Rattle.report.proofs.block.line_at.Goals as goal
 
-count-le : (c : goal.In-Bytes) → c.in-Bytes.count ≤ line_room
-count-le c =
+count_le : (c : goal.After-unwrap-count) → c.unwrap-count.result ≤ line_room
+count_le c =
     let a = c.args in
-    let call = c.answer_line-line in
-    omega (arith, part_le _ a.at (a.at + line_room) a.text.now c.requires call.ensures c.in-Bytes.is call.auto.text)
+    let line = c.answer_line in
+    omega (arith, part_le _ a.at (a.at + line_room) a.text.now c.requires line.ensures c.unwrap-count.ensures line.auto.text)
 
 pub overflow_add-result : goal.overflow_add-result
-overflow_add-result c = omega (arith, count-le c)
+overflow_add-result c = omega (arith, count_le c)
 
-pub returns-in-Bytes-clause-put : goal.returns-in-Bytes-clause-put
-returns-in-Bytes-clause-put c =
-    let call = c.answer_line-line in
-    put_part _ (c.args.at + line_room) call.ensures c.in-Bytes.is call.auto.text
+pub returns-clause-put : goal.returns-clause-put
+returns-clause-put c =
+    let line = c.answer_line in
+    let e : by_number c.map_err.result ≡ meaning c.args.answer = search rules in
+    rw (← e) (put_part _ (c.args.at + line_room) line.ensures c.unwrap-count.ensures line.auto.text)
 
-pub returns-in-Bytes-clause-upper_bound : goal.returns-in-Bytes-clause-upper_bound
-returns-in-Bytes-clause-upper_bound c = omega (arith, count-le c)
+pub returns-clause-upper_bound : goal.returns-clause-upper_bound
+returns-clause-upper_bound c = omega (arith, count_le c)
