@@ -6,13 +6,14 @@ use borrow.Author.Tests.{ltb-false, le-ltb}
 use lib.Dec.{T}
 use lib.IntN.{ℤ, nat_abs}
 use Rattle.angle.specs.Angle.{N, H}
-use Rattle.angle.proofs.Judged.{not-false}
+use borrow.Author.Tests.{not-false}
 use Rattle.angle.proofs.Sides.{not_above, not_below, between}
 use Rattle.parallel.specs.declared.table.Row.{Row}
 use Rattle.parallel.specs.Table.{row_of}
 use Rattle.parallel.specs.Parallel.{height}
 use Rattle.parallel.specs.Latitude.{width_at}
-use Rattle.parallel.specs.Refusal.{given, is_kind}
+use Rattle.refusal.specs.Outcome.{given}
+use Rattle.parallel.specs.Refusal.{is_kind}
 use Rattle.projection.specs.Forward.{place_of}
 use Rattle.projection.specs.Inverse.{position_of}
 use Rattle.projection.specs.Answer.{forward_order, row_order, inverse_order, forward_of, inverse_of}
@@ -37,7 +38,7 @@ position kind c l f p e =
     let g = unless_given (forward_order kind c l f) (place_of (row_of kind) c l f) p e in
     let n = g.0 in (
       record {
-        kind_good = not-false (is_kind kind) n.0;
+        kind_good = rw (not-false (is_kind kind) n.0) tt;
         c_le = ltb-false N (nat_abs c) n.1.0;
         l_le = ltb-false N (nat_abs l) n.1.1.0;
         f_le = ltb-false H (nat_abs f) n.1.1.1.0;
@@ -78,7 +79,7 @@ place kind c x y p e =
     let g = unless_given (inverse_order kind c x y) (position_of r c x y) p e in
     let n = g.0 in
     let s = row_sizes r x y n.1.1 in (
-      record { kind_good = not-false (is_kind kind) n.0; c_le = ltb-false N (nat_abs c) n.1.0; y_le = s.0; x_le = s.1 },
+      record { kind_good = rw (not-false (is_kind kind) n.0) tt; c_le = ltb-false N (nat_abs c) n.1.0; y_le = s.0; x_le = s.1 },
       g.1,
     )
 

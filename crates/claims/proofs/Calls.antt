@@ -4,7 +4,7 @@ use mathlib.Core.Path.{◌≡◌, sym, subst, ◌∙◌}
 use Prim.Native.Nat.{ℕ, ◌≤◌}
 use lib.IntN.{ℤ, neg_ℤ, nat_abs}
 use Rattle.angle.specs.Angle.{N}
-use Rattle.parallel.specs.Refusal.{Outcome, refused, given}
+use Rattle.refusal.specs.Outcome.{Outcome, refused, given}
 use Rattle.projection.specs.Answer.{forward_of, inverse_of}
 use Rattle.claims.specs.Demand3.{Calls, numbers, SameAt, Alike, TurnedX, TurnedY, Returns, Shares, Resends, Demand3}
 use Rattle.claims.proofs.Accepted.{position}

@@ -12,7 +12,8 @@ use Rattle.sine.specs.Sine.{billion, line, sine_of, cosine_of}
 use Rattle.parallel.specs.Table.{rows, row_of}
 use Rattle.parallel.specs.Parallel.{radicand, q_by, q_at, one_by, one_of, numerator, half_width, height}
 use Rattle.parallel.specs.Latitude.{latitude_size, latitude_at, width_at}
-use Rattle.parallel.specs.Refusal.{is_kind, unless}
+use Rattle.refusal.specs.Outcome.{unless}
+use Rattle.parallel.specs.Refusal.{is_kind}
 use Rattle.parallel.specs.Columns.{combined}
 use Rattle.parallel.proofs.Widths.{combined_is}
 use Rattle.projection.specs.Longitude.{wrap}

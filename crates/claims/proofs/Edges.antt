@@ -17,7 +17,8 @@ use Rattle.sine.specs.Sine.{line, sine_of, cosine_of}
 use Rattle.parallel.specs.Table.{rows, row_of}
 use Rattle.parallel.specs.Parallel.{radicand, q_by, q_at, one_by, one_of, numerator, half_width, height}
 use Rattle.parallel.specs.Latitude.{latitude_size, latitude_at, width_at}
-use Rattle.parallel.specs.Refusal.{Refusal, refused, is_kind, unless}
+use Rattle.refusal.specs.Outcome.{Rule, refused, unless}
+use Rattle.parallel.specs.Refusal.{is_kind}
 use Rattle.parallel.proofs.Orders.{not_both}
 use Rattle.projection.specs.Longitude.{wrap}
 use Rattle.projection.specs.Inverse.{difference_at, position_of}
@@ -39,11 +40,11 @@ is_below n (pos m) e = absurd (omega (arith, ltb-true n 0 e))
 is_below n (negsuc m) e = (suc m, refl, ltb-true n (suc m) e)
 
 -- what holds of the number of each refusal of an order that applies holds of the number that is answered
-abbrev OfApplying : (ℕ → Type 0) → List Refusal → Type 0
+abbrev OfApplying : (ℕ → Type 0) → List Rule → Type 0
 OfApplying P [] = Unit {0}
 OfApplying P (r ∷ rs) = (r.applies ≡ true → P r.number) × OfApplying P rs
 
-of_applying : {A : Type 0} (P : ℕ → Type 0) (order : List Refusal) (a : A) → OfApplying P order → (n : ℕ) → unless order a ≡ refused n → P n
+of_applying : {A : Type 0} (P : ℕ → Type 0) (order : List Rule) (a : A) → OfApplying P order → (n : ℕ) → unless order a ≡ refused n → P n
 unfolding unless
 of_applying P [] a h n e = absurd (not_both n a (sym e))
 of_applying P (r ∷ rs) a h n e = go r.applies refl e (of_applying P rs a h.1 n)
@@ -66,7 +67,7 @@ module _ (kind : ℕ) (x y : ℤ) where
       let w = width_at (row_of kind) y in
       (is_above n y, (is_below n y, (is_above w x, (is_below w x, tt))))
 
-  tells : {A : Type 0} (order : List Refusal) (a : A) → OfApplying Told order → TellsSide (unless order a) kind x y
+  tells : {A : Type 0} (order : List Rule) (a : A) → OfApplying Told order → TellsSide (unless order a) kind x y
   tells order a h =
       record {
         north = of_applying Told order a h 6;

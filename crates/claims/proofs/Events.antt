@@ -3,7 +3,7 @@ use mathlib.Core.List.{List, ◌∷◌, ◌++◌}
 use mathlib.Core.Path.{◌≡◌, refl, sym, ap, subst, ◌∙◌}
 use Prim.Native.Nat.{ℕ, ◌+◌, ◌≤◌}
 use borrow.Author.Tests.{le-leb, leb-true}
-use Rattle.parallel.specs.Refusal.{given, or_else}
+use Rattle.refusal.specs.Outcome.{given, or_else}
 use Rattle.note.specs.Note.{cap, narrow, note_of}
 use Rattle.note.proofs.Stored.{note_length}
 use Rattle.session.specs.declared.Session.{Session}

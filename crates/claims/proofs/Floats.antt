@@ -9,9 +9,9 @@ use lib.IntN.{ℤ, neg_ℤ, nat_abs}
 use lib.Ieee.{Float}
 use lib.Ieee.Scale.{finite}
 use Rattle.angle.specs.Angle.{per_degree}
-use Rattle.angle.proofs.Judged as Judged
 use Rattle.parallel.specs.Table.{row_of}
-use Rattle.parallel.specs.Refusal.{refused, given, is_kind, on_given}
+use Rattle.refusal.specs.Outcome.{refused, given, on_given}
+use Rattle.parallel.specs.Refusal.{is_kind}
 use Rattle.projection.specs.Forward.{place_of}
 use Rattle.projection.specs.Inverse.{position_of}
 use Rattle.projection.specs.Answer.{forward_of, inverse_of}
@@ -82,7 +82,7 @@ sent kind c l f x y e =
     let t = n.1.1.1 in
     let q : Position kind (centiseconds c) (centiseconds l) (centiseconds f) =
     record {
-      kind_good = Judged.not-false (is_kind kind) g.0.0;
+      kind_good = rw (not-false (is_kind kind) g.0.0) tt;
       c_le = read_within 180 per_degree c t.0;
       l_le = read_within 180 per_degree l t.1.0;
       f_le = read_within 90 per_degree f t.1.1.0;
@@ -110,7 +110,7 @@ sent_back kind c x y l f e =
     let z = row_sizes r (units x) (units y) t.1 in
     let q : Place kind (centiseconds c) (units x) (units y) =
     record {
-      kind_good = Judged.not-false (is_kind kind) g.0.0;
+      kind_good = rw (not-false (is_kind kind) g.0.0) tt;
       c_le = read_within 180 per_degree c t.0;
       y_le = z.0;
       x_le = z.1;

@@ -12,7 +12,8 @@ use Rattle.angle.specs.Angle.{N}
 use Rattle.parallel.specs.declared.table.Row.{Row}
 use Rattle.parallel.specs.Table.{neg, row_of}
 use Rattle.parallel.specs.Parallel.{half_width}
-use Rattle.parallel.specs.Refusal.{given, is_kind}
+use Rattle.refusal.specs.Outcome.{given}
+use Rattle.parallel.specs.Refusal.{is_kind}
 use Rattle.projection.specs.Longitude.{wrap, difference_of}
 use Rattle.projection.specs.Forward.{place_of}
 use Rattle.projection.specs.Answer.{forward_of}

@@ -19,7 +19,8 @@ use Rattle.parallel.specs.declared.table.Row.{Row}
 use Rattle.parallel.specs.Table.{rows, no_row, row_of}
 use Rattle.parallel.specs.Parallel.{radicand, q_by, q_at, one_by, one_of, numerator, half_width, height}
 use Rattle.parallel.specs.Latitude.{y_of, latitude_size, latitude_at, width_at}
-use Rattle.parallel.specs.Refusal.{is_kind, unless}
+use Rattle.refusal.specs.Outcome.{unless}
+use Rattle.parallel.specs.Refusal.{is_kind}
 use Rattle.parallel.specs.Answer.{width_of}
 use Rattle.parallel.proofs.Every.{every, every_at}
 use Rattle.parallel.proofs.Rows.{kind_range}

@@ -30,3 +30,4 @@ pub mod Printed
 pub mod ReprojectedRuns
 pub mod SalvagedRuns
 pub mod Exchanges
+pub mod Named

@@ -7,7 +7,7 @@ use native.Mathlib.Omega.{arith}
 use borrow.Author.Tests.{lt-ltb, le-ltb, eq-eqb, ne_eqb, eqb-true}
 use lib.Dec.{eqb}
 use lib.ListN.{length, take, drop}
-use Rattle.parallel.specs.Refusal.{refused, given, on_given, unless}
+use Rattle.refusal.specs.Outcome.{refused, given, on_given, unless}
 use Rattle.parallel.proofs.Orders.{Passes}
 use Rattle.little_endian.specs.Whole.{whole_of, least_bytes}
 use Rattle.little_endian.proofs.Wholes.{whole_four, least_four, four_at}

@@ -6,7 +6,7 @@ use Prim.Native.Nat.{ℕ, ◌≤◌}
 use native.Mathlib.Omega.{arith}
 use lib.IntN.{ℤ}
 use lib.ListN.{length}
-use Rattle.parallel.specs.Refusal.{Outcome, refused, given}
+use Rattle.refusal.specs.Outcome.{Outcome, refused, given}
 use Rattle.parallel.proofs.Orders.{not_both}
 use Rattle.record.specs.Refusal.{both_of_size}
 use Rattle.record.specs.Answer.{judged_of}

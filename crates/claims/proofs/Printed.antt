@@ -9,7 +9,8 @@ use lib.ListN.{take}
 use Rattle.parallel.specs.Table.{rows, row_of}
 use Rattle.parallel.specs.Parallel.{radicand, q_by, q_at, one_by, one_of, numerator, half_width, height}
 use Rattle.parallel.specs.Latitude.{y_of, latitude_size, width_at}
-use Rattle.parallel.specs.Refusal.{refused, given, unless, is_kind}
+use Rattle.refusal.specs.Outcome.{refused, given, unless}
+use Rattle.parallel.specs.Refusal.{is_kind}
 use Rattle.whole.specs.Nearest.{nearest, carry}
 use Rattle.projection.specs.Longitude.{wrap}
 use Rattle.projection.specs.Forward.{x_of, place_of}

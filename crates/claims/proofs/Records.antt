@@ -13,7 +13,7 @@ use mir.Syntax.{w32}
 use mir.Val.{SFits}
 use Rattle.whole.proofs.Signs.{fits}
 use Rattle.angle.specs.Angle.{N}
-use Rattle.parallel.specs.Refusal.{Outcome, refused, given}
+use Rattle.refusal.specs.Outcome.{Outcome, refused, given}
 use Rattle.parallel.proofs.Orders.{not_both}
 use Rattle.projection.specs.Answer.{forward_of, inverse_of}
 use Rattle.little_endian.specs.Number.{bytes_of}

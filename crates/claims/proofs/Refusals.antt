@@ -4,17 +4,17 @@ use mathlib.Core.List.{List, [], ◌∷◌, ◌++◌}
 use mathlib.Core.Logic.{◌↔◌}
 use mathlib.Core.Path.{◌≡◌, refl, sym, ap}
 use Prim.Native.Nat.{ℕ}
-use Rattle.parallel.specs.Refusal.{Refusal, refused, given, unless}
+use Rattle.refusal.specs.Outcome.{Rule, refused, given, unless}
 use Rattle.parallel.proofs.Orders.{not_both, passes, all_pass}
 use Rattle.claims.specs.Demand1.{None, First, numbers_of, Ordered}
 
 module _ {A : Type 0} where
-  pub unless_none : (order : List Refusal) (a : A) → None order → unless order a ≡ given a
+  pub unless_none : (order : List Rule) (a : A) → None order → unless order a ≡ given a
   unfolding unless
   unless_none [] a h = refl
   unless_none (r ∷ rs) a h = rw h.0 (unless_none rs a h.1)
 
-  pub unless_given : (order : List Refusal) (a b : A) → unless order a ≡ given b → None order × (b ≡ a)
+  pub unless_given : (order : List Rule) (a b : A) → unless order a ≡ given b → None order × (b ≡ a)
   unfolding unless
   unless_given [] a b e = (tt, sym (all_pass a b e))
   unless_given (r ∷ rs) a b e =
@@ -22,7 +22,7 @@ module _ {A : Type 0} where
       let n = unless_given rs a b p.1 in
       ((p.0, n.0), n.1)
 
-  unless_first : (order : List Refusal) (a : A) (n : ℕ) → unless order a ≡ refused n → First order n
+  unless_first : (order : List Rule) (a : A) (n : ℕ) → unless order a ≡ refused n → First order n
   unfolding unless
   unless_first [] a n e = absurd (not_both n a (sym e))
   unless_first (r ∷ rs) a n e = go r.applies refl e (unless_first rs a n)
@@ -36,23 +36,23 @@ module _ {A : Type 0} where
             earlier = r ∷ f.earlier;
             refusal = f.refusal;
             later = f.later;
-            stands = ap (λ (xs : List Refusal). r ∷ xs) f.stands;
+            stands = ap (λ (xs : List Rule). r ∷ xs) f.stands;
             number = f.number;
             holds = f.holds;
             none_earlier = (h, f.none_earlier);
           }
 
-  first_given : (earlier : List Refusal) (r : Refusal) (later : List Refusal) (a : A) → None earlier → r.applies ≡ true →
+  first_given : (earlier : List Rule) (r : Rule) (later : List Rule) (a : A) → None earlier → r.applies ≡ true →
       unless (earlier ++ (r ∷ later)) a ≡ refused r.number
   unfolding unless
   first_given [] r later a h k = rw k
   first_given (e ∷ es) r later a h k = rw h.0 (first_given es r later a h.1 k)
 
-  first_unless : (order : List Refusal) (a : A) (n : ℕ) → First order n → unless order a ≡ refused n
+  first_unless : (order : List Rule) (a : A) (n : ℕ) → First order n → unless order a ≡ refused n
   first_unless order a n f =
       rw (f.stands, ← f.number) (first_given f.earlier f.refusal f.later a f.none_earlier f.holds)
 
-  pub ordered : {numbers : List ℕ} (order : List Refusal) (a : A) → numbers_of order ≡ numbers →
+  pub ordered : {numbers : List ℕ} (order : List Rule) (a : A) → numbers_of order ≡ numbers →
       Ordered (unless order a) order numbers a
   ordered order a e =
       record {
@@ -62,6 +62,6 @@ module _ {A : Type 0} where
       }
 
   -- one and the same order refuses alike, whatever it is to give
-  pub same_refusals : (order : List Refusal) (a b : A) (n : ℕ) → (unless order a ≡ refused n) ↔ (unless order b ≡ refused n)
+  pub same_refusals : (order : List Rule) (a b : A) (n : ℕ) → (unless order a ≡ refused n) ↔ (unless order b ≡ refused n)
   same_refusals order a b n =
       (λ e. first_unless order b n (unless_first order a n e), λ e. first_unless order a n (unless_first order b n e))

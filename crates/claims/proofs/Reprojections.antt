@@ -16,7 +16,8 @@ use Rattle.angle.specs.Angle.{N, H}
 use Rattle.parallel.specs.Table.{rows, row_of}
 use Rattle.parallel.specs.Parallel.{height}
 use Rattle.parallel.specs.Latitude.{width_at}
-use Rattle.parallel.specs.Refusal.{Refusal, Outcome, refused, given, is_kind, unless, past_north, past_south}
+use Rattle.refusal.specs.Outcome.{Rule, Outcome, refused, given, unless}
+use Rattle.parallel.specs.Refusal.{is_kind, past_north, past_south}
 use Rattle.parallel.proofs.Orders.{sides, refused_sides}
 use Rattle.projection.specs.Forward.{place_of}
 use Rattle.projection.specs.Inverse.{position_of}
@@ -115,7 +116,7 @@ pole_y kind (inl e) = rw e
 pole_y kind (inr e) = rw e
 
 -- an order refuses where a later part of it does, and where it begins with the sides of a limit that is passed
-later : {A : Type 0} (r : Refusal) (rs : List Refusal) (a : A) → Refuses (unless rs a) → Refuses (unless (r ∷ rs) a)
+later : {A : Type 0} (r : Rule) (rs : List Rule) (a : A) → Refuses (unless rs a) → Refuses (unless (r ∷ rs) a)
 unfolding unless
 later r rs a h = go r.applies
   where
@@ -123,12 +124,12 @@ later r rs a h = go r.applies
     go true = (r.number, refl)
     go false = h
 
-past : {A : Type 0} (plus minus n : ℕ) (z : ℤ) (rest : List Refusal) (a : A) → n < nat_abs z → Refuses (unless (sides plus minus n z rest) a)
+past : {A : Type 0} (plus minus n : ℕ) (z : ℤ) (rest : List Rule) (a : A) → n < nat_abs z → Refuses (unless (sides plus minus n z rest) a)
 past plus minus n z rest a h =
     (cond (split_of z).negative minus plus, refused_sides plus minus n z rest a (lt-ltb n (nat_abs z) h))
 
 module _ (s : List ℕ) where
-  abbrev on_sides : List Refusal
+  abbrev on_sides : List Rule
   on_sides = sides 7 17 (width_at (old_row s) (second_in s)) (first_in s) []
 
   pub by_3 : 64800000 < nat_abs (central_in s) → reprojected s ≡ s

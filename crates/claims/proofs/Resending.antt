@@ -14,7 +14,7 @@ use Rattle.parallel.specs.Table.{row_of}
 use Rattle.parallel.specs.Parallel.{half_width, height}
 use Rattle.parallel.specs.Latitude.{y_of}
 use Rattle.parallel.specs.Latitude.{latitude_size, latitude_at, width_at}
-use Rattle.parallel.specs.Refusal.{given}
+use Rattle.refusal.specs.Outcome.{given}
 use Rattle.parallel.specs.Columns.{Columns}
 use Rattle.parallel.proofs.Rows.{columns}
 use Rattle.parallel.proofs.Scales.{scaled_zero, unscaled_le}

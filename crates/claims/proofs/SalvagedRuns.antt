@@ -6,7 +6,8 @@ use Prim.Native.Nat.{ℕ, ◌≤◌}
 use borrow.Author.Tests.{le-leb, lt-leb, leb-true, leb-false}
 use lib.ListN.{length}
 use Rattle.parallel.specs.Table.{rows}
-use Rattle.parallel.specs.Refusal.{unless, is_kind}
+use Rattle.refusal.specs.Outcome.{unless}
+use Rattle.parallel.specs.Refusal.{is_kind}
 use Rattle.little_endian.specs.Number.{number_at}
 use Rattle.record.specs.Answer.{pair_order, judged_of, convertible}
 use Rattle.torn.specs.Parts.{skip, reading, parts_of, taken_in, runs_from, taken_of, closed_up}

@@ -13,7 +13,8 @@ use Rattle.whole.specs.Nearest.{nearest, carry}
 use Rattle.parallel.specs.Table.{rows, row_of}
 use Rattle.parallel.specs.Parallel.{radicand, q_by, q_at, one_by, one_of, numerator, half_width, height}
 use Rattle.parallel.specs.Latitude.{latitude_size, width_at}
-use Rattle.parallel.specs.Refusal.{Outcome, refused, given, is_given, unless, is_kind}
+use Rattle.refusal.specs.Outcome.{Outcome, refused, given, is_given, unless}
+use Rattle.parallel.specs.Refusal.{is_kind}
 use Rattle.little_endian.specs.Number.{number_at}
 use Rattle.digits.specs.Put.{put_front}
 use Rattle.record.specs.Answer.{pair_order, judged_of, convertible, convert_of}

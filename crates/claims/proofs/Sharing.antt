@@ -12,7 +12,7 @@ use Rattle.angle.specs.Angle.{N}
 use Rattle.parallel.specs.declared.table.Row.{Row}
 use Rattle.parallel.specs.Table.{row_of}
 use Rattle.parallel.specs.Parallel.{half_width}
-use Rattle.parallel.specs.Refusal.{given}
+use Rattle.refusal.specs.Outcome.{given}
 use Rattle.projection.specs.Longitude.{wrap, difference_of}
 use Rattle.projection.specs.Forward.{x_of, place_of}
 use Rattle.projection.specs.Answer.{forward_of}

@@ -10,7 +10,8 @@ use Rattle.whole.proofs.Signs.{parts, sum, less}
 use Rattle.parallel.specs.Table.{rows, row_of}
 use Rattle.parallel.specs.Parallel.{radicand, q_by, q_at, one_by, one_of, numerator, half_width, height}
 use Rattle.parallel.specs.Latitude.{y_of, latitude_size, latitude_at, width_at}
-use Rattle.parallel.specs.Refusal.{is_kind, unless}
+use Rattle.refusal.specs.Outcome.{unless}
+use Rattle.parallel.specs.Refusal.{is_kind}
 use Rattle.parallel.specs.Answer.{width_of}
 use Rattle.projection.specs.Longitude.{wrap}
 use Rattle.projection.specs.Forward.{x_of, place_of}

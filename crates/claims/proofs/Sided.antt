@@ -8,7 +8,7 @@ use lib.Dec.{eqb}
 use lib.IntN.{ℤ, neg_ℤ}
 use Rattle.angle.specs.Angle.{above, below}
 use Rattle.angle.proofs.Sides.{above_neg, below_neg, one_side}
-use Rattle.parallel.specs.Refusal.{Refusal, refused, given, unless}
+use Rattle.refusal.specs.Outcome.{Rule, refused, given, unless}
 use Rattle.parallel.proofs.Orders.{OfNumbers, not_both, sides}
 use Rattle.claims.specs.TurnedPlaces.{exchanged, AlikeBy}
 
@@ -47,7 +47,7 @@ module _ {A : Type 0} (a b : ℕ) (d : eqb b a ≡ false) (R : A → A → Type 
       }
 
   -- an order that begins both, whose numbers stay
-  pub after : (order rest rest' : List Refusal) (p q : A) → OfNumbers (λ (n : ℕ). f n ≡ n) order →
+  pub after : (order rest rest' : List Rule) (p q : A) → OfNumbers (λ (n : ℕ). f n ≡ n) order →
       AlikeBy f R (unless rest p) (unless rest' q) → AlikeBy f R (unless (order ++ rest) p) (unless (order ++ rest') q)
   unfolding unless
   after [] rest rest' p q h k = k
@@ -59,7 +59,7 @@ module _ {A : Type 0} (a b : ℕ) (d : eqb b a ≡ false) (R : A → A → Type 
       go false j = j
 
   -- the sides of a limit, at a number and at that number turned: only one side can be passed
-  pub turned_sides : (n : ℕ) (z : ℤ) (rest rest' : List Refusal) (p q : A) → AlikeBy f R (unless rest p) (unless rest' q) →
+  pub turned_sides : (n : ℕ) (z : ℤ) (rest rest' : List Rule) (p q : A) → AlikeBy f R (unless rest p) (unless rest' q) →
       AlikeBy f R (unless (sides a b n z rest) p) (unless (sides a b n (neg_ℤ z) rest') q)
   unfolding unless
   turned_sides n z rest rest' p q k = rw (above_neg n z, below_neg n z) (go (above n z) (below n z) refl refl)

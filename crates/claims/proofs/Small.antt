@@ -5,7 +5,7 @@ use native.Mathlib.Omega.{arith}
 use lib.IntN.{ℤ, nat_abs}
 use Rattle.angle.specs.Angle.{N, H}
 use Rattle.parallel.specs.Table.{row_of}
-use Rattle.parallel.specs.Refusal.{given}
+use Rattle.refusal.specs.Outcome.{given}
 use Rattle.parallel.proofs.Rows.{columns}
 use Rattle.parallel.proofs.Heights.{pole_small, found_small}
 use Rattle.projection.specs.Answer.{forward_of, inverse_of}

@@ -3,7 +3,7 @@ use mathlib.Core.List.{List}
 use mathlib.Core.Path.{refl, sym, ap, subst}
 use Prim.Native.Nat.{ℕ}
 use lib.Dec.{T, ltb}
-use Rattle.parallel.specs.Refusal.{Refusal, Outcome, refused, given, OfNumber, unless}
+use Rattle.refusal.specs.Outcome.{Rule, Outcome, refused, given, OfNumber, unless}
 use Rattle.parallel.proofs.Orders.{OfNumbers, unless_number}
 use Rattle.projection.specs.Answer.{forward_of, inverse_of}
 use Rattle.degrees.specs.Answer.{forward_of as forward_degrees, inverse_of as inverse_degrees}
@@ -24,7 +24,7 @@ tells : {A : Type 0} (outcome : Outcome A) → OfNumber Above0 outcome → Tells
 tells (given a) h = record { converted = (λ e. tt, λ c. refl); number = λ n e. ap status_of e }
 tells (refused m) h = record { converted = (λ e. subst Above0 e h, λ c. absurd c); number = λ n e. ap status_of e }
 
-ordered : {A : Type 0} (order : List Refusal) (a : A) → OfNumbers Above0 order → Tells (unless order a)
+ordered : {A : Type 0} (order : List Rule) (a : A) → OfNumbers Above0 order → Tells (unless order a)
 ordered order a h = tells (unless order a) (unless_number Above0 order a h)
 
 pub interface : Interface

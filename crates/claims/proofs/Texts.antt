@@ -13,7 +13,7 @@ use Rattle.whole.specs.declared.Signed.{Signed}
 use Rattle.whole.specs.Signed.{join_of}
 use Rattle.whole.proofs.Tests.{both}
 use Rattle.angle.specs.Sexagesimal.{signed_of, below_sixty}
-use Rattle.parallel.specs.Refusal.{given, unless}
+use Rattle.refusal.specs.Outcome.{given, unless}
 use Rattle.digits.specs.Digits.{last_digits, value_from}
 use Rattle.shape.specs.Shape.{slash, shape, stand}
 use Rattle.shape.proofs.Standing.{long}

@@ -13,7 +13,8 @@ use Rattle.parallel.specs.declared.table.Row.{Row}
 use Rattle.parallel.specs.Table.{row_of}
 use Rattle.parallel.specs.Parallel.{height}
 use Rattle.parallel.specs.Latitude.{width_at}
-use Rattle.parallel.specs.Refusal.{refused, given, unless, bad_kind}
+use Rattle.refusal.specs.Outcome.{refused, given, unless}
+use Rattle.parallel.specs.Refusal.{bad_kind}
 use Rattle.parallel.specs.Answer.{pole_order}
 use Rattle.parallel.proofs.Heights.{latitude_turned, width_turned}
 use Rattle.parallel.proofs.Orders.{sides}

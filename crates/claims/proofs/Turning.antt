@@ -7,7 +7,7 @@ use Rattle.whole.proofs.Signs.{nat_abs_neg}
 use Rattle.parallel.specs.Table.{row_of}
 use Rattle.parallel.specs.Parallel.{half_width}
 use Rattle.parallel.specs.Latitude.{y_of}
-use Rattle.parallel.specs.Refusal.{Refusal, unless}
+use Rattle.refusal.specs.Outcome.{Rule, unless}
 use Rattle.parallel.proofs.Heights.{y_turned}
 use Rattle.projection.specs.Longitude.{difference_of}
 use Rattle.projection.specs.Forward.{x_of, place_of}
@@ -17,7 +17,7 @@ use Rattle.claims.specs.Demand3.{numbers, Alike, TurnedX, TurnedY}
 use Rattle.claims.proofs.Refusals.{unless_given, same_refusals}
 
 -- answers in a relation are alike after one and the same order of refusals
-unless_alike : {A : Type 0} (R : A → A → Type 0) (order : List Refusal) (p q : A) → R p q → Alike R (unless order p) (unless order q)
+unless_alike : {A : Type 0} (R : A → A → Type 0) (order : List Rule) (p q : A) → R p q → Alike R (unless order p) (unless order q)
 unless_alike R order p q h =
     record {
       refusals = same_refusals order p q;

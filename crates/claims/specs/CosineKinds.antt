@@ -6,7 +6,7 @@ use Rattle.sine.specs.Series.{one, pi}
 use Rattle.sine.specs.Sine.{cosine_of}
 use Rattle.parallel.specs.Table.{row_of}
 use Rattle.parallel.specs.Parallel.{half_width}
-use Rattle.parallel.specs.Refusal.{refused, given}
+use Rattle.refusal.specs.Outcome.{refused, given}
 use Rattle.projection.specs.Answer.{inverse_of}
 
 abbrev pub square : ℕ → ℕ

@@ -3,7 +3,8 @@
 use Rattle.std.specs.Prelude.{true, false, cond, List, [], ◌∷◌, ◌++◌, map, ◌↔◌, ◌≡◌, ℕ, ◌≤◌, T, eqb, Float, ℤ, nat_abs, length}
 use Rattle.parallel.specs.Table.{row_of}
 use Rattle.parallel.specs.Parallel.{half_width}
-use Rattle.parallel.specs.Refusal.{Refusal, Outcome, refused, given, is_kind}
+use Rattle.refusal.specs.Outcome.{Rule, Outcome, refused, given}
+use Rattle.parallel.specs.Refusal.{is_kind}
 use Rattle.parallel.specs.Answer.{width_order, width_of}
 use Rattle.projection.specs.Forward.{place_of}
 use Rattle.projection.specs.Inverse.{position_of}
@@ -23,26 +24,26 @@ use Rattle.session.specs.Session.{feed_order, feed_of}
 use Rattle.session.specs.Handover.{with_counts, save_of, restore_of}
 
 -- no condition of an order holds
-abbrev pub None : List Refusal → Type 0
+abbrev pub None : List Rule → Type 0
 None [] = Unit {0}
 None (r ∷ rs) = (r.applies ≡ false) × None rs
 
 -- a refusal numbered n stands in the order, its condition holds, and none earlier does
-pub record First (order : List Refusal) (n : ℕ) : Type 0 where
-  pub earlier : List Refusal
-  pub refusal : Refusal
-  pub later : List Refusal
+pub record First (order : List Rule) (n : ℕ) : Type 0 where
+  pub earlier : List Rule
+  pub refusal : Rule
+  pub later : List Rule
   pub stands : order ≡ earlier ++ (refusal ∷ later)
   pub number : refusal.number ≡ n
   pub holds : refusal.applies ≡ true
   pub none_earlier : None earlier
 
 -- the numbers of an order
-abbrev pub numbers_of : List Refusal → List ℕ
-numbers_of order = map (λ (r : Refusal). r.number) order
+abbrev pub numbers_of : List Rule → List ℕ
+numbers_of order = map (λ (r : Rule). r.number) order
 
 -- an outcome is refused by the first refusal of the order, whose numbers are these, and gives a where there is none
-pub record Ordered {A : Type 0} (outcome : Outcome A) (order : List Refusal) (numbers : List ℕ) (a : A) : Type 0 where
+pub record Ordered {A : Type 0} (outcome : Outcome A) (order : List Rule) (numbers : List ℕ) (a : A) : Type 0 where
   pub numbers_are : numbers_of order ≡ numbers
   pub refusal : (n : ℕ) → (outcome ≡ refused n) ↔ First order n
   pub answer : (b : A) → (outcome ≡ given b) ↔ (None order × (b ≡ a))

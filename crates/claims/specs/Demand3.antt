@@ -7,7 +7,7 @@ use Rattle.angle.specs.Angle.{N}
 use Rattle.parallel.specs.Table.{row_of}
 use Rattle.parallel.specs.Parallel.{half_width}
 use Rattle.parallel.specs.Latitude.{width_at}
-use Rattle.parallel.specs.Refusal.{Outcome, refused, given}
+use Rattle.refusal.specs.Outcome.{Outcome, refused, given}
 use Rattle.projection.specs.Inverse.{difference_at}
 use Rattle.projection.specs.Answer.{forward_of, inverse_of}
 use Rattle.reading.specs.Reading.{centiseconds, units}

@@ -6,7 +6,8 @@ use Rattle.parallel.specs.declared.table.Row.{Row}
 use Rattle.parallel.specs.Table.{row_of}
 use Rattle.parallel.specs.Parallel.{height}
 use Rattle.parallel.specs.Latitude.{width_at}
-use Rattle.parallel.specs.Refusal.{Outcome, refused, given, past_north, past_south}
+use Rattle.refusal.specs.Outcome.{Outcome, refused, given}
+use Rattle.parallel.specs.Refusal.{past_north, past_south}
 use Rattle.projection.specs.Refusal.{past_east, past_west}
 use Rattle.projection.specs.Answer.{inverse_of}
 use Rattle.reading.specs.Reading.{units}

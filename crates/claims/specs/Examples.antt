@@ -4,7 +4,7 @@ use Rattle.std.specs.Float.{fin}
 use Rattle.parallel.specs.Table.{neg, row_of}
 use Rattle.parallel.specs.Parallel.{half_width}
 use Rattle.parallel.specs.Latitude.{y_of}
-use Rattle.parallel.specs.Refusal.{Outcome, refused, given}
+use Rattle.refusal.specs.Outcome.{Outcome, refused, given}
 use Rattle.projection.specs.Longitude.{difference_of}
 use Rattle.projection.specs.Answer.{forward_of}
 use Rattle.reading.specs.Reading.{centiseconds}

@@ -2,7 +2,7 @@
 use Rattle.std.specs.Prelude.{◌≡◌, ℕ, pos}
 use Rattle.parallel.specs.declared.table.Method.TheVariants.{Root}
 use Rattle.parallel.specs.Table.{row, neg, row_of}
-use Rattle.parallel.specs.Refusal.{refused, given}
+use Rattle.refusal.specs.Outcome.{refused, given}
 use Rattle.parallel.specs.Answer.{width_of}
 use Rattle.projection.specs.Answer.{inverse_of}
 use Rattle.reprojection.specs.Retired.{retired_row}

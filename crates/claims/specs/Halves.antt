@@ -5,7 +5,8 @@ use Rattle.std.specs.Float.{fin}
 use Rattle.whole.specs.Signed.{with_sign}
 use Rattle.angle.specs.Angle.{N}
 use Rattle.parallel.specs.Table.{neg, row_of}
-use Rattle.parallel.specs.Refusal.{is_kind, given}
+use Rattle.refusal.specs.Outcome.{given}
+use Rattle.parallel.specs.Refusal.{is_kind}
 use Rattle.parallel.specs.Answer.{width_of}
 use Rattle.projection.specs.Answer.{forward_of, inverse_of}
 use Rattle.reading.specs.Reading.{read_of, centiseconds, units}

@@ -1,7 +1,7 @@
 -- What a session's counts say: after any list of events since it was opened, each count is the last accepted note's number plus
 -- the records since then which the rules convert, or refuse by a number other than 8 and 11; and what a note hands over.
 use Rattle.std.specs.Prelude.{true, List, [], ◌∷◌, ◌++◌, ◌↔◌, ◌≡◌, ℕ, ◌+◌, ◌≤◌, length}
-use Rattle.parallel.specs.Refusal.{refused, given}
+use Rattle.refusal.specs.Outcome.{refused, given}
 use Rattle.session.specs.declared.Session.{Session}
 use Rattle.session.specs.Session.{is_full, feed_of, session_after}
 use Rattle.session.specs.Handover.{save_of, restore_of}

@@ -1,7 +1,7 @@
 -- The C interface: what a status says, and how a session is kept. What each function returns and leaves in lent memory is in
 -- its contract.
 use Rattle.std.specs.Prelude.{List, [], ◌∷◌, ◌↔◌, ◌≡◌, ℕ, Float, ℤ}
-use Rattle.parallel.specs.Refusal.{Outcome, refused, given}
+use Rattle.refusal.specs.Outcome.{Outcome, refused, given}
 use Rattle.projection.specs.Answer.{forward_of, inverse_of}
 use Rattle.degrees.specs.Answer.{forward_of as forward_degrees, inverse_of as inverse_degrees}
 use Rattle.iso6709.specs.Answer.{read_of, write_of}

@@ -1,6 +1,6 @@
 -- Order 3, the handover note: what saving and restoring are answered in every case, and the ten bytes of a note.
 use Rattle.std.specs.Prelude.{List, [], ◌∷◌, map, ◌≢◌, ◌≡◌, ℕ, ◌+◌, ◌*◌, ◌/◌, ◌%◌, ◌≤◌, ◌<◌, length}
-use Rattle.parallel.specs.Refusal.{Outcome, refused, given, or_else}
+use Rattle.refusal.specs.Outcome.{Outcome, refused, given, or_else}
 use Rattle.session.specs.declared.Session.{Session}
 use Rattle.session.specs.Handover.{save_of, restore_of}
 use Rattle.claims.specs.Texts.{byte}

@@ -1,7 +1,7 @@
 -- What the program `convert` prints of an input: that of the whole input, whatever pieces it comes in, or where a read or a write fails
 -- the lines of whole records alone; in text that is what it should be.
 use Rattle.std.specs.Prelude.{true, List, [], ◌∷◌, ◌++◌, ◌≡◌, ◌≢◌, ℕ, ℤ, pos, negsuc, take}
-use Rattle.parallel.specs.Refusal.{refused, given}
+use Rattle.refusal.specs.Outcome.{refused, given}
 use Rattle.lines.specs.Decimal.{decimal_of, number_text, DecimalText}
 use Rattle.lines.specs.Line.{line_of}
 use Rattle.report.specs.Block.{SessionsCompose, LinesCompose}

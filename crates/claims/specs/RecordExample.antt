@@ -1,6 +1,6 @@
 -- The worked record of document 01.
 use Rattle.std.specs.Prelude.{List, [], ◌∷◌, ◌≡◌, ℕ, pos, length}
-use Rattle.parallel.specs.Refusal.{given}
+use Rattle.refusal.specs.Outcome.{given}
 use Rattle.record.specs.Answer.{convert_of, output_after}
 
 abbrev pub input : List ℕ

@@ -3,7 +3,7 @@ use Rattle.std.specs.Prelude.{Bool, true, false, List, ◌⊎◌, ◌≢◌, ◌
 use Rattle.angle.specs.Angle.{N}
 use Rattle.parallel.specs.Table.{row_of}
 use Rattle.parallel.specs.Parallel.{half_width}
-use Rattle.parallel.specs.Refusal.{Outcome, refused, given}
+use Rattle.refusal.specs.Outcome.{Outcome, refused, given}
 use Rattle.record.specs.Record.{size, position, place, record_of, kind_in, form_in, central_in, first_in, second_in, moved_of}
 use Rattle.record.specs.Answer.{convert_of, output_after}
 use Rattle.session.specs.declared.Session.{Session}

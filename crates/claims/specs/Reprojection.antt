@@ -4,7 +4,7 @@ use Rattle.angle.specs.Angle.{N, H}
 use Rattle.parallel.specs.declared.table.Row.{Row}
 use Rattle.parallel.specs.Parallel.{half_width}
 use Rattle.parallel.specs.Latitude.{width_at}
-use Rattle.parallel.specs.Refusal.{given}
+use Rattle.refusal.specs.Outcome.{given}
 use Rattle.projection.specs.Forward.{place_of}
 use Rattle.projection.specs.Inverse.{position_of}
 use Rattle.projection.specs.Answer.{forward_of}

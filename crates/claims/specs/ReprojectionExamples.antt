@@ -1,7 +1,7 @@
 -- Worked records of order 2.
 use Rattle.std.specs.Prelude.{List, [], ◌∷◌, ◌++◌, ◌≡◌, ℕ, ℤ, pos}
 use Rattle.parallel.specs.Table.{neg}
-use Rattle.parallel.specs.Refusal.{given}
+use Rattle.refusal.specs.Outcome.{given}
 use Rattle.projection.specs.Answer.{forward_of, inverse_of}
 use Rattle.record.specs.Record.{place, record_of}
 use Rattle.reprojection.specs.Reprojected.{reprojected}

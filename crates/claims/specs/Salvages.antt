@@ -1,6 +1,6 @@
 -- Order 7, the salvage of a torn record file: how it is read, what is taken, skipped and listed, and what is refused, for every file.
 use Rattle.std.specs.Prelude.{true, false, List, [], ◌∷◌, ◌++◌, map, ◌↔◌, ◌≢◌, ◌≡◌, ℕ, ◌+◌, ◌*◌, ◌/◌, ◌≤◌, ◌<◌, ℤ, length, get_or, take, drop}
-use Rattle.parallel.specs.Refusal.{refused, given}
+use Rattle.refusal.specs.Outcome.{refused, given}
 use Rattle.record.specs.Answer.{convertible, convert_of}
 use Rattle.torn.specs.Parts.{Part, taken, skipped, skip, parts_of, taken_of, runs_of, closed_up, back_of}
 use Rattle.torn.specs.Pieces.{list_of}

@@ -1,7 +1,7 @@
 -- Either side of the lines that demand 3 draws; and its exceptions, as worked cases.
 use Rattle.std.specs.Prelude.{◌≢◌, ◌≡◌, ℕ, ℤ, pos, nat_abs, ◌+ℤ◌}
 use Rattle.parallel.specs.Table.{neg}
-use Rattle.parallel.specs.Refusal.{given}
+use Rattle.refusal.specs.Outcome.{given}
 use Rattle.parallel.specs.Answer.{width_of}
 use Rattle.projection.specs.Answer.{forward_of, inverse_of}
 use Rattle.claims.specs.Demand3.{numbers, OneMeridian, SameAt, Close, SamePosition, ClosePlace}

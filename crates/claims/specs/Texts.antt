@@ -3,7 +3,8 @@ use Rattle.std.specs.Prelude.{List, [], ◌∷◌, ◌⊎◌, ◌↔◌, ◌≢�
 use Rattle.whole.specs.declared.Signed.{Signed}
 use Rattle.whole.specs.Signed.{join_of}
 use Rattle.angle.specs.Sexagesimal.{signed_of}
-use Rattle.parallel.specs.Refusal.{given, refused, or_else, bad_latitude}
+use Rattle.refusal.specs.Outcome.{given, refused, or_else}
+use Rattle.parallel.specs.Refusal.{bad_latitude}
 use Rattle.projection.specs.Refusal.{bad_longitude}
 use Rattle.iso6709.specs.Refusal.{bad_length, bad_shape, bad_sixties, bad_zero}
 use Rattle.iso6709.specs.Answer.{latitude_in, longitude_in, read_order, read_of, write_order, write_of}

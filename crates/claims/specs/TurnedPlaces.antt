@@ -1,7 +1,7 @@
 -- A place with a sign turned: the side that it is refused for turns with it, and nothing else does (order 6). Said once for the calls
 -- on whole numbers and those on floats, and for both calls that take a record.
 use Rattle.std.specs.Prelude.{cond, List, ◌↔◌, ◌≢◌, ◌≡◌, ℕ, eqb, ℤ, neg_ℤ}
-use Rattle.parallel.specs.Refusal.{Outcome, refused, given}
+use Rattle.refusal.specs.Outcome.{Outcome, refused, given}
 use Rattle.record.specs.Record.{position, central_in, form_in, first_in, second_in}
 use Rattle.claims.specs.Demand3.{Calls, numbers, floats, TurnedFloat, difference}
 use Rattle.claims.specs.RecordLaws.{RecordCall, converting, feeding, SameHead, TurnedEast, TurnedNorth}

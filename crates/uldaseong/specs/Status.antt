@@ -1,8 +1,6 @@
 -- What a function of the C interface returns, and what lent memory holds afterwards.
 use Rattle.std.specs.Prelude.{List, [], ◌∷◌, ℕ, get_or}
-use Rattle.parallel.specs.Refusal.{Outcome, refused, given}
-use Rattle.note.specs.declared.answer.NoteAnswer.{NoteAnswer}
-use Rattle.note.specs.declared.answer.NoteAnswer.TheVariants.{Accepted, Refused}
+use Rattle.refusal.specs.Outcome.{Outcome, refused, given}
 use Rattle.session.specs.declared.Session.{Session}
 
 -- 0 where the call did what was asked, else the refusal's number
@@ -21,8 +19,3 @@ session_in counts = record { moved = get_or counts 0 0; refused = get_or counts 
 
 abbrev pub counts_of : Session → List ℕ
 counts_of session = session.moved ∷ session.refused ∷ []
-
--- the same number of what saving and restoring are answered
-abbrev pub note_status : NoteAnswer → ℕ
-note_status Accepted = 0
-note_status (Refused n) = n

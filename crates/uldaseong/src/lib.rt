@@ -1,12 +1,15 @@
 // The C interface: forward and inverse on numbers, floats and records, positions as text, a session's handover note, and the salvage
-// of a torn record file, as functions of C, which `uldaseong_c` exports from a static library. A function returns 0 where it did what
-// was asked, and else the refusal's number; then no lent pair, no lent piece, no text, no note and no restored session has changed.
+// of a torn record file, by types that C has; `uldaseong_c` exports these functions from a static library. A function returns 0 where
+// it did what was asked, and else the refusal's number; then no lent pair, no lent piece, no text, no note and no restored session has
+// changed.
 #![tactic(auto)]
 
+mod counts;
 mod floats;
 mod notes;
 mod numbers;
 mod records;
+mod status;
 mod texts;
 mod torn_files;
 

@@ -1,12 +1,12 @@
 // Forward and inverse on whole numbers.
 ghost use Rattle.std.specs.Prelude.{◌≡◌};
-ghost use Rattle.projection.specs.Answer.{meaning, forward_of, inverse_of};
+ghost use Rattle.projection.specs.Answer.{forward_of, inverse_of};
 ghost use Rattle.uldaseong.specs.Status.{status_of, pair_after};
 
-use projection::{Answer, forward, inverse};
+use super::status::hand_out;
+use projection::{forward, inverse};
 
-#[unsafe(no_mangle)]
-pub extern "C" fn uldaseong_forward(
+pub fn uldaseong_forward(
     kind: u8,
     central: i32,
     longitude: i32,
@@ -19,30 +19,9 @@ pub extern "C" fn uldaseong_forward(
     hand_out(forward(kind, central, longitude, latitude), place)
 }
 
-#[unsafe(no_mangle)]
-pub extern "C" fn uldaseong_inverse(
-    kind: u8,
-    central: i32,
-    x: i32,
-    y: i32,
-    position: &mut [i32; 2],
-) -> u8
+pub fn uldaseong_inverse(kind: u8, central: i32, x: i32, y: i32, position: &mut [i32; 2]) -> u8
     ensures value { result ≡ status_of (inverse_of kind central x y) }
     ensures position_after { position.new ≡ pair_after position.old (inverse_of kind central x y) }
 {
     hand_out(inverse(kind, central, x, y), position)
-}
-
-// Puts an answer's pair into lent memory, and gives the status.
-pub(crate) fn hand_out(answer: Answer, pair: &mut [i32; 2]) -> u8
-    ensures value { result ≡ status_of (meaning answer) }
-    ensures pair_after { pair.new ≡ pair_after pair.old (meaning answer) }
-{
-    match answer {
-        Answer::Pair(first, second) => {
-            *pair = [first, second];
-            0
-        }
-        Answer::Refused(n) => n,
-    }
 }

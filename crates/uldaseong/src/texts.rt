@@ -1,27 +1,22 @@
 // Positions read from text and written as text.
 ghost use Rattle.std.specs.Prelude.{◌≡◌, length};
-ghost use Rattle.parallel.specs.Refusal.{or_else};
+ghost use Rattle.refusal.specs.Outcome.{or_else};
 ghost use Rattle.iso6709.specs.Answer.{read_of, write_of};
 ghost use Rattle.uldaseong.specs.Status.{status_of, pair_after};
 
-use super::numbers::hand_out;
-use iso6709::{TextAnswer, read_text, write_text};
+use super::status::{hand_out, status};
+use iso6709::{read_text, write_text};
 
-#[unsafe(no_mangle)]
-pub extern "C" fn uldaseong_read_text(text: &[u8], position: &mut [i32; 2]) -> u8
+pub fn uldaseong_read_text(text: &[u8], position: &mut [i32; 2]) -> u8
     ensures value { result ≡ status_of (read_of text.now) }
     ensures position_after { position.new ≡ pair_after position.old (read_of text.now) }
 {
     hand_out(read_text(text), position)
 }
 
-#[unsafe(no_mangle)]
-pub extern "C" fn uldaseong_write_text(longitude: i32, latitude: i32, text: &mut [u8]) -> u8
+pub fn uldaseong_write_text(longitude: i32, latitude: i32, text: &mut [u8]) -> u8
     ensures value { result ≡ status_of (write_of longitude latitude (length text.old)) }
     ensures text_after { text.new ≡ or_else text.old (write_of longitude latitude (length text.old)) }
 {
-    match write_text(longitude, latitude, text) {
-        TextAnswer::Written => 0,
-        TextAnswer::Refused(n) => n,
-    }
+    status(write_text(longitude, latitude, text))
 }

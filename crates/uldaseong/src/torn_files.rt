@@ -3,11 +3,11 @@ ghost use Rattle.std.specs.Prelude.{◌≡◌, length};
 ghost use Rattle.torn.specs.Answer.{salvage_of, records_after, list_after};
 ghost use Rattle.uldaseong.specs.Status.{status_of, pair_after};
 
-use torn::{Salvaged, salvage};
+use super::status::hand_out;
+use torn::salvage;
 
 // The counts are of records taken and of runs skipped.
-#[unsafe(no_mangle)]
-pub extern "C" fn uldaseong_salvage(
+pub fn uldaseong_salvage(
     input: &[u8],
     records: &mut [u8],
     runs: &mut [u8],
@@ -18,11 +18,9 @@ pub extern "C" fn uldaseong_salvage(
     ensures runs_after { runs.new ≡ list_after input.now runs.old (salvage_of input.now (length records.old) (length runs.old)) }
     ensures counts_after { counts.new ≡ pair_after counts.old (salvage_of input.now (length records.old) (length runs.old)) }
 {
-    match salvage(input, records, runs) {
-        Salvaged::Counts(taken, skipped) => {
-            *counts = [taken as u64, skipped as u64];
-            0
-        }
-        Salvaged::Refused(n) => n,
-    }
+    let salvaged = salvage(input, records, runs);
+    hand_out(
+        salvaged.map(|(taken, skipped)| (taken as u64, skipped as u64)),
+        counts,
+    )
 }

@@ -1,6 +1,6 @@
 // A session saved as a handover note, and restored from one.
 ghost use Rattle.std.specs.Prelude.{◌≡◌, length};
-ghost use Rattle.parallel.specs.Refusal.{or_else};
+ghost use Rattle.refusal.specs.Outcome.{or_else};
 ghost use Rattle.session.specs.Handover.{save_of, restore_of};
 ghost use Rattle.uldaseong.specs.Status.{status_of, session_in, counts_of};
 

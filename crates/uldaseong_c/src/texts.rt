@@ -1,6 +1,6 @@
 // Positions read from text and written as text.
 ghost use Rattle.std.specs.Prelude.{◌≡◌, length};
-ghost use Rattle.parallel.specs.Refusal.{or_else};
+ghost use Rattle.refusal.specs.Outcome.{or_else};
 ghost use Rattle.iso6709.specs.Answer.{read_of, write_of};
 ghost use Rattle.uldaseong.specs.Status.{status_of, pair_after};
 

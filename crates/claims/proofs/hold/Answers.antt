@@ -23,7 +23,8 @@ use Rattle.parallel.specs.Table.{rows, row_of}
 use Rattle.parallel.specs.Parallel.{radicand, q_by, q_at, one_by, one_of, numerator, half_width, height}
 use Rattle.parallel.specs.Columns.{combined, Usable}
 use Rattle.parallel.specs.Latitude.{y_of}
-use Rattle.parallel.specs.Refusal.{is_kind, unless}
+use Rattle.refusal.specs.Outcome.{unless}
+use Rattle.parallel.specs.Refusal.{is_kind}
 use Rattle.parallel.specs.Answer.{width_order, width_of}
 use Rattle.parallel.proofs.Rows.{kind_range, columns}
 use Rattle.parallel.proofs.Widths.{combined_whole, radicand_whole, numerator_whole, width_small}
