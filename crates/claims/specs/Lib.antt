@@ -27,3 +27,4 @@ pub mod Reprojection
 pub mod ReprojectionExamples
 pub mod ReprojectedRuns
 pub mod SalvagedRuns
+pub mod Names

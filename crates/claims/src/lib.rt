@@ -10,6 +10,7 @@ ghost use Rattle.claims.specs.Exchange.{Exchange};
 ghost use Rattle.claims.specs.Halves.{Halves};
 ghost use Rattle.claims.specs.HouseSine.{HouseSine};
 ghost use Rattle.claims.specs.Interface.{Interface};
+ghost use Rattle.claims.specs.Names.{Names};
 ghost use Rattle.claims.specs.Notes.{Notes};
 ghost use Rattle.claims.specs.Printing.{Printing};
 ghost use Rattle.claims.specs.RecordExample.{RecordExample};
@@ -27,5 +28,5 @@ ghost use Rattle.claims.specs.Written.{Written};
 
 // Does nothing. Its `ensures` is the product of all claims.
 pub fn hold()
-    ensures { Demands × Edges × TurnedPlaces × Sharp × Examples × RecordExample × Arithmetic × Halves × HouseSine × CosineKinds × Written × Printing × Interface × Texts × TextExamples × Notes × Salvages × SalvageExamples × Exchange × Reprojection × ReprojectionExamples × ReprojectedRuns × SalvagedRuns }
+    ensures { Demands × Edges × TurnedPlaces × Sharp × Examples × RecordExample × Arithmetic × Halves × HouseSine × CosineKinds × Written × Printing × Interface × Texts × TextExamples × Notes × Salvages × SalvageExamples × Exchange × Reprojection × ReprojectionExamples × ReprojectedRuns × SalvagedRuns × Names }
 {}

@@ -52,6 +52,7 @@ use Rattle.claims.specs.Demand3.{Demand3, numbers, floats}
 use Rattle.claims.specs.Demands.{Demands}
 use Rattle.claims.specs.RecordLaws.{converting, feeding}
 use Rattle.claims.specs.Examples.{Examples, examples}
+use Rattle.claims.specs.Names.{Names}
 use Rattle.claims.specs.RecordExample.{input}
 use Rattle.claims.specs.Written.{Written, DegreesBack}
 use Rattle.claims.proofs.Bound.{within_one, one_is_m}
@@ -216,6 +217,17 @@ arithmetic =
       right_angle = refl;
     }
 
+names : Names
+names =
+    record {
+      kinds = refl;
+      calls = refl;
+      edges = refl;
+      records = refl;
+      texts = refl;
+      torn_files = refl;
+    }
+
 pub returns : goal.returns
 returns c =
-    (demands, edges, turned_places, sharp, worked, record_example, arithmetic, halves, house_sine, cosine_kinds, written, printing, interface, texts, text_examples, notes, salvages, salvage_examples, exchange, reprojection, reprojection_examples, reprojected_runs, salvaged_runs)
+    (demands, edges, turned_places, sharp, worked, record_example, arithmetic, halves, house_sine, cosine_kinds, written, printing, interface, texts, text_examples, notes, salvages, salvage_examples, exchange, reprojection, reprojection_examples, reprojected_runs, salvaged_runs, names)
