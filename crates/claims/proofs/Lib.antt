@@ -31,3 +31,4 @@ pub mod ReprojectedRuns
 pub mod SalvagedRuns
 pub mod Exchanges
 pub mod Named
+pub mod Uncited

@@ -2,15 +2,22 @@
 use mathlib.Core.Bool.{Bool, true, false, not, cond}
 use mathlib.Core.List.{List, [], ◌∷◌, ◌++◌, append_assoc}
 use mathlib.Core.Path.{◌≡◌, refl, sym, ap, ◌∙◌}
-use Prim.Native.Nat.{ℕ, suc, ◌+◌, ◌*◌, ◌/◌, ◌%◌, ◌≤◌, ◌<◌}
+use Prim.Native.Nat.{ℕ, zero, suc, ◌+◌, ◌*◌, ◌/◌, ◌%◌, ◌^◌, ◌≤◌, ◌<◌, min}
 use native.Mathlib.Nat.{lt_of_not-le}
 use native.Mathlib.Omega.{arith}
 use borrow.Author.Tests.{le-leb, lt-leb, leb-true, leb-false, ltb-false, not-false}
 use lib.Dec.{T, leb}
 use lib.IntN.{ℤ, nat_abs}
 use lib.ListN.{length, set, take, drop}
+use lib.Pow.{pow_pos}
+use lib.Ieee as Ieee
+use lib.Ieee.{binary64, of_bits}
+use lib.Ieee.Exact.{HasValue}
+use lib.Ieee.Scale.{finite}
 use Rattle.std.specs.Prelude.{Float}
 use Rattle.std.proofs.Math.Seq.{sets-eq}
+use Rattle.whole.specs.Signed.{with_sign}
+use Rattle.whole.proofs.Signs.{on_sign}
 use Rattle.angle.specs.Angle.{H, outside}
 use Rattle.refusal.specs.Outcome.{Outcome, refused, given, unless}
 use Rattle.refusal.specs.Number.{done}
@@ -26,11 +33,15 @@ use Rattle.parallel.proofs.Widths.{width_small}
 use Rattle.parallel.proofs.Orders.{Passes, unless_number}
 use Rattle.parallel.proofs.Answers.{Small}
 use Rattle.projection.specs.Forward.{place_of}
-use Rattle.reading.specs.Reading.{centiseconds}
+use Rattle.projection.specs.Inverse.{position_of}
+use Rattle.projection.specs.Answer.{row_order}
+use Rattle.reading.specs.Held.{most, held}
+use Rattle.reading.specs.Reading.{read_of, centiseconds, units}
+use Rattle.reading.proofs.Floats.{read_of_lem, size_read, subnormal, normal, bits_back}
 use Rattle.degrees.specs.Refusal.{bad_central, bad_longitude, bad_latitude}
-use Rattle.degrees.specs.Answer.{written_place, forward_of}
+use Rattle.degrees.specs.Answer.{written_place, written_position, forward_of, inverse_of}
 use Rattle.degrees.proofs.Judged.{Finite}
-use Rattle.record.specs.Answer.{pair_of, record_order, judged_of}
+use Rattle.record.specs.Answer.{pair_of, record_order, judged_of, output_after}
 use Rattle.record.proofs.Orders.{pair_numbers}
 use Rattle.session.specs.declared.Session.{Session}
 use Rattle.session.specs.Session.{is_counted, one_refused, session_after, Counts}
@@ -83,6 +94,43 @@ pub forward_rest : (kind : ℕ) (central longitude latitude : Float) → Passes 
     ≡ forward_of kind central longitude latitude
 unfolding forward_of unless
 forward_rest kind central longitude latitude k h c = rw (k, h.first, h.second, h.third, c)
+
+-- and past them the row judges a place
+pub inverse_row : (kind : ℕ) (central x y : Float) → Passes (bad_kind kind) → Finite central x y → Passes (bad_central central) →
+    unless (row_order (row_of kind) (units x) (units y))
+    (written_position (position_of (row_of kind) (centiseconds central) (units x) (units y)))
+    ≡ inverse_of kind central x y
+unfolding inverse_of unless
+inverse_row kind central x y k h c = rw (k, h.first, h.second, h.third, c)
+
+-- a number that is held has the sign of the float's pattern
+pub with_its_sign : (k : ℕ) (x : Float) {n : ℕ} → Ieee.fits binary64 x ≡ true → finite x ≡ true →
+    n ≡ min most (nat_abs (read_of k (of_bits binary64 (Ieee.to_bits binary64 x)))) →
+    with_sign (leb (2 ^ 63) (Ieee.to_bits binary64 x)) n ≡ held (read_of k x)
+with_its_sign k x {n} f h e = go (Ieee.to_bits binary64 x % 2 ^ 63 / 2 ^ 52) refl
+  where
+    from : (a : ℕ) → HasValue (of_bits binary64 (Ieee.to_bits binary64 x)) (leb (2 ^ 63) (Ieee.to_bits binary64 x)) a (2 ^ 1074) →
+        with_sign (leb (2 ^ 63) (Ieee.to_bits binary64 x)) n ≡ held (read_of k x)
+    from a v =
+        let b = Ieee.to_bits binary64 x in
+        let s = leb (2 ^ 63) b in
+        let p = pow_pos 1074 in
+        ap (with_sign s) (e ∙ ap (min most) (size_read k (of_bits binary64 b) s a (2 ^ 1074) p v))
+        ∙ sym (on_sign (min most) refl s _)
+        ∙ ap held (sym (read_of_lem k (of_bits binary64 b) s a (2 ^ 1074) p v))
+        ∙ ap (λ (y : Float). held (read_of k y)) (bits_back x f)
+
+    go : (j : ℕ) → Ieee.to_bits binary64 x % 2 ^ 63 / 2 ^ 52 ≡ j →
+        with_sign (leb (2 ^ 63) (Ieee.to_bits binary64 x)) n ≡ held (read_of k x)
+    go zero d = from (Ieee.to_bits binary64 x % 2 ^ 52 * 2 ^ 0) (subnormal (Ieee.to_bits binary64 x) d)
+    go (suc j) d =
+        from ((2 ^ 52 + Ieee.to_bits binary64 x % 2 ^ 52) * 2 ^ j)
+        (normal (Ieee.to_bits binary64 x) j d (ap finite (bits_back x f) ∙ h))
+
+-- what the output piece holds after a refusal
+pub kept : (input output : List ℕ) {answer : Outcome (ℤ × ℤ)} (n : ℕ) → refused n ≡ answer → output ≡ output_after input output answer
+unfolding output_after
+kept input output n e = rw (sym e)
 
 -- a record's own refusals are counted, and a counted refusal adds one
 abbrev Counted : ℕ → Type 0

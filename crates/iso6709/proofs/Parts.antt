@@ -41,7 +41,7 @@ module _ (l : List ℕ) (at width sign : ℕ) (angle : Sexagesimal) (room : at +
     put₁ : Put l₀ (at + 1) (last_digits width angle.degrees) m l₁
     put₁ = digits_over l₀ p₁ (at + 1) m width angle.degrees refl (omega (arith, long₀)) degrees
 
-    long₁ : length l₁ ≡ length l
+    pub long₁ : length l₁ ≡ length l
     long₁ = put_long put₁ (omega (arith, long₀)) ∙ long₀
 
     module _ (p₂ : List ℕ) (minutes : Filled l₁ m (m + 2) p₂ angle.minutes) where
@@ -51,7 +51,7 @@ module _ (l : List ℕ) (at width sign : ℕ) (angle : Sexagesimal) (room : at +
       put₂ : Put l₁ m (last_digits 2 angle.minutes) (m + 2) l₂
       put₂ = digits_over l₁ p₂ m (m + 2) 2 angle.minutes refl (omega (arith, long₁)) minutes
 
-      long₂ : length l₂ ≡ length l
+      pub long₂ : length l₂ ≡ length l
       long₂ = put_long put₂ (omega (arith, long₁)) ∙ long₁
 
       module _ (p₃ : List ℕ) (seconds : Filled l₂ (m + 2) (m + 4) p₃ angle.seconds) where

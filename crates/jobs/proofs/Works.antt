@@ -60,7 +60,7 @@ taken_stand s text part h k e =
     (front_put text rs (sym (taken_long s)) (rw (e, append_assoc rs (drop (length rs) (take (length s) text)) (drop (length s) text), stays)))
 
 module _ {s text list : List ℕ} (lent : Lent s text list) where
-  abbrev answer : Outcome (ℕ × ℕ)
+  abbrev pub answer : Outcome (ℕ × ℕ)
   answer = salvage_of s (length (take (length s) text)) (length list)
 
   answer_is : answer ≡ given (counts_of s)

@@ -33,10 +33,10 @@ module _ {input records list text : List ℕ} {room : ℕ} (h : Rooms input reco
   n = length input
 
   -- parts of the pieces, of the right lengths
-  record_part : length (take n records) ≡ n
+  pub record_part : length (take n records) ≡ n
   record_part = length-take-le n records (omega (arith, h.short, h.taken))
 
-  list_part : length (take room list) ≡ room
+  pub list_part : length (take room list) ≡ room
   list_part = length-take-le room list (omega (arith, h.short, h.listed))
 
   abbrev answer : Outcome (ℕ × ℕ)

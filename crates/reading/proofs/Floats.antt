@@ -33,18 +33,18 @@ read_of_lem k (fin t m e) s a c h v =
     ∙ ap (with_sign s) (nearest_same (m * up e * k) (down e) (a * k) c (down_pos e) h
     (mul_right_comm (m * up e) k c ∙ ap (λ (x : ℕ). x * k) v.1 ∙ mul_right_comm a (down e) k))
 
-size_read : (k : ℕ) (x : Float) (s : Bool) (a c : ℕ) → 0 < c → HasValue x s a c → nat_abs (read_of k x) ≡ nearest (a * k) c
+pub size_read : (k : ℕ) (x : Float) (s : Bool) (a c : ℕ) → 0 < c → HasValue x s a c → nat_abs (read_of k x) ≡ nearest (a * k) c
 size_read k x s a c h v = ap nat_abs (read_of_lem k x s a c h v) ∙ nat_abs_sign s (nearest (a * k) c)
 
 -- a float that is no number is read as 0
-read_none : (k : ℕ) (x : Float) → finite x ≡ false → read_of k x ≡ pos 0
+pub read_none : (k : ℕ) (x : Float) → finite x ≡ false → read_of k x ≡ pos 0
 unfolding read_of
 read_none k nan h = refl
 read_none k (inf s) h = refl
 read_none k (fin s m e) h = absurd (true≢false h)
 
 -- the value of a pattern of bits, by its sign, its exponent and its digits
-subnormal : (b : ℕ) → b % 2 ^ 63 / 2 ^ 52 ≡ 0 →
+pub subnormal : (b : ℕ) → b % 2 ^ 63 / 2 ^ 52 ≡ 0 →
     HasValue (of_bits binary64 b) (leb (2 ^ 63) b) (b % 2 ^ 52 * 2 ^ 0) (2 ^ 1074)
 unfolding of_bits of_fields
 subnormal b h = rw h (odd_sign 53 (leb (2 ^ 63) b) (b % 2 ^ 52) 0 1074)
@@ -60,7 +60,7 @@ with_exponent s k t = go (eqb (suc k) 2047) (eqb t 0)
     go true false h = absurd (true≢false (sym h))
     go false b h = odd_sign 53 s (2 ^ 52 + t) k 1074
 
-normal : (b k : ℕ) → b % 2 ^ 63 / 2 ^ 52 ≡ suc k → finite (of_bits binary64 b) ≡ true →
+pub normal : (b k : ℕ) → b % 2 ^ 63 / 2 ^ 52 ≡ suc k → finite (of_bits binary64 b) ≡ true →
     HasValue (of_bits binary64 b) (leb (2 ^ 63) b) ((2 ^ 52 + b % 2 ^ 52) * 2 ^ k) (2 ^ 1074)
 unfolding of_bits
 normal b k h f = rw h (with_exponent (leb (2 ^ 63) b) k (b % 2 ^ 52) (rw h at f))
@@ -72,7 +72,7 @@ no_nan nan h = absurd (true≢false (sym h))
 no_nan (inf s) h = tt
 no_nan (fin s m e) h = tt
 
-bits_back : (x : Float) → Ieee.fits binary64 x ≡ true → of_bits binary64 (Ieee.to_bits binary64 x) ≡ x
+pub bits_back : (x : Float) → Ieee.fits binary64 x ≡ true → of_bits binary64 (Ieee.to_bits binary64 x) ≡ x
 bits_back x f = of_bits-to_bits binary64 x (subst T (sym f) tt)
 
 -- the size of what is read, by the pattern's digits and exponent

@@ -1,5 +1,5 @@
 -- The number of each refusal of the code, and what its answers mean.
-use Rattle.std.specs.Prelude.{ℕ, Result, Ok, Err}
+use Rattle.std.specs.Prelude.{ℕ, List, ◌++◌, codes, decimal, Result, Ok, Err}
 use Rattle.refusal.specs.declared.Refusal.{Refusal}
 use Rattle.refusal.specs.declared.Refusal.TheVariants.{Kind, Float, Central, Longitude, Latitude, North, East, Length, Mark, Form, Full, TextLength, TextShape, Sixties, MinusZero, Counts, West, South, TooLong, Rooms}
 use Rattle.refusal.specs.Outcome.{Outcome, refused, given}
@@ -25,6 +25,10 @@ number_of West = 17
 number_of South = 18
 number_of TooLong = 23
 number_of Rooms = 24
+
+-- what a refusal prints, as "refused 5"
+abbrev pub printed_of : Refusal → List ℕ
+printed_of refusal = codes "refused " ++ decimal (number_of refusal)
 
 -- document 01's number or values for each case of the code's answers
 abbrev pub meaning : {A : Type 0} → Result A Refusal → Outcome A

@@ -1,8 +1,8 @@
 // The refusals, each by its number: a call that refuses answers the first that applies, and changes nothing.
 #![tactic(auto)]
 
-ghost use Rattle.std.specs.Prelude.{◌≡◌};
-ghost use Rattle.refusal.specs.Number.{number_of};
+ghost use Rattle.std.specs.Prelude.{◌≡◌, Some};
+ghost use Rattle.refusal.specs.Number.{number_of, printed_of};
 
 use std::error::Error;
 use std::fmt;
@@ -50,8 +50,10 @@ impl From<Refusal> for u8 {
 }
 
 impl fmt::Display for Refusal {
+    ghost output = { λ refusal. Some (printed_of refusal) };
+
     fn fmt<W: fmt::Write>(&self, f: &mut fmt::Formatter<W>) -> fmt::Result {
-        write!(f, "refused {}", *self as u8)
+        write!(f, "refused {}", u8::from(*self))
     }
 }
 

@@ -59,7 +59,7 @@ module _ {s records₀ list₀ records list : List ℕ} {at since count runs : �
   within = h.read.within
 
   -- the pieces keep their lengths
-  records_kept : length records ≡ length s
+  pub records_kept : length records ≡ length s
   records_kept = put_long h.stored.put (omega (arith, h.packed, h.behind, within, h.rooms.record_room)) ∙ h.rooms.record_room
 
   -- the bytes that may be a record are within the input

@@ -1,4 +1,4 @@
--- `parallel::width::combined` meets its contract: its four products are those of the parts of x and y.
+-- `parallel::parallel::combined` meets its contract: its four products are those of the parts of x and y.
 use mathlib.Core.Path.{◌≡◌, ◌∙◌}
 use Prim.Native.Nat.{◌<◌}
 use native.Mathlib.Omega.{arith}

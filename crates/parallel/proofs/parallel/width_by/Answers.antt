@@ -1,4 +1,4 @@
--- `parallel::width::width_by` meets its contract: its sum, its product and its quotient fit, since q and D are a row's at a latitude.
+-- `parallel::parallel::width_by` meets its contract: its sum, its product and its quotient fit, since q and D are a row's at a latitude.
 use mathlib.Core.Path.{◌≡◌, ap, ◌∙◌}
 use Prim.Native.Nat.{ℕ, ◌+◌, ◌*◌, ◌<◌}
 use native.Mathlib.Omega.{arith}

@@ -1,4 +1,4 @@
--- `parallel::width::row_half_width` meets its contract, a return for each method.
+-- `parallel::parallel::Parallel::half_width` meets its contract, a return for each method.
 use Rattle.parallel.proofs.Fractions.{unused_fraction}
 use Rattle.parallel.proofs.parallel.Parallel.half_width.Goals as goal
 
