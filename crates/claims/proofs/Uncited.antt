@@ -1,4 +1,4 @@
--- Lemmas that nothing here cites.
+-- Lemmas that no other file cites.
 use mathlib.Core.Bool.{Bool, beq, true, false, or-true, and-eq-true_iff}
 use mathlib.Core.List.{List, [], ◌∷◌, ◌++◌}
 use mathlib.Core.Path.{◌≡◌, refl, sym, ap, ◌∙◌}
