@@ -52,6 +52,7 @@ use Rattle.claims.specs.Demand3.{Demand3, numbers, floats}
 use Rattle.claims.specs.Demands.{Demands}
 use Rattle.claims.specs.RecordLaws.{converting, feeding}
 use Rattle.claims.specs.Examples.{Examples, examples}
+use Rattle.std.specs.Fmt.{digits}
 use Rattle.claims.specs.Names.{Names}
 use Rattle.claims.specs.RecordExample.{input}
 use Rattle.claims.specs.Written.{Written, DegreesBack}
@@ -218,6 +219,7 @@ arithmetic =
     }
 
 names : Names
+unfolding digits
 names =
     record {
       kinds = refl;
@@ -226,6 +228,8 @@ names =
       records = refl;
       texts = refl;
       torn_files = refl;
+      printed_7 = refl;
+      printed_24 = refl;
     }
 
 pub returns : goal.returns
